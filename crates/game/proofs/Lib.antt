@@ -1,0 +1,5 @@
+pub mod Stores
+pub mod Starts
+pub mod Sizes
+pub mod Order
+pub mod Said

@@ -1,0 +1,4 @@
+pub mod Game
+pub mod Tables
+pub mod Faults
+pub mod Answer

@@ -1,0 +1,33 @@
+// Winners and moves: the only code that knows how they are stored.
+ghost use mathlib.Core.Path.{_≡_};
+ghost use Prim.Native.Nat.{_<_};
+ghost use lib.ListN.{length};
+ghost use Rattle.game.specs.Answer.{markRoom, markOf, moveOf, MarkSet, MoveSet};
+
+pub fn mark(winners: &[u8], v: usize) -> u8
+    requires { ⌜ v < markRoom (now winners) ⌝ }
+    ensures { λ r. ⌜ r ≡ markOf (now (winners .entry)) v ⌝ }
+{
+    winners[v]
+}
+
+pub fn set_mark(winners: &mut [u8], v: usize, p: u8)
+    requires { ⌜ v < markRoom (now winners) ⌝ }
+    ensures { λ _. ⌜ MarkSet (now (winners .entry)) (now (winners .exit)) v p ⌝ }
+{
+    winners[v] = p;
+}
+
+pub fn recorded(moves: &[u16], v: usize) -> u16
+    requires { ⌜ v < length (now moves) ⌝ }
+    ensures { λ r. ⌜ r ≡ moveOf (now (moves .entry)) v ⌝ }
+{
+    moves[v]
+}
+
+pub fn record_move(moves: &mut [u16], v: usize, m: u16)
+    requires { ⌜ v < length (now moves) ⌝ }
+    ensures { λ _. ⌜ MoveSet (now (moves .entry)) (now (moves .exit)) v m ⌝ }
+{
+    moves[v] = m;
+}

@@ -1,0 +1,5 @@
+// The tables of a game: owners and priorities are bytes, starts and targets 16-bit numbers.
+pub mod answer;
+pub mod faults;
+pub mod tables;
+pub mod vertex;

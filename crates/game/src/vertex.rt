@@ -1,0 +1,46 @@
+// One vertex: its successors, and the test of it by their marks. Both serve games that have passed 1 to 7.
+use crate::answer::mark;
+use player::Player;
+ghost use mathlib.Core.Path.{_≡_};
+ghost use Prim.Native.Nat.{ℕ, _<_};
+ghost use lib.ListN.{length, getD};
+ghost use Rattle.game.specs.Tables.{nextOf, Stretch};
+ghost use Rattle.game.specs.Answer.{markRoom, markOf, Chooses};
+
+// What the one-vertex test finds: the first successor marked for the owner, or none.
+pub enum Choice {
+    To(u16),
+    Nobody,
+}
+
+pub fn wide(x: u16) -> usize
+    ensures { λ r. ⌜ r ≡ x ⌝ }
+{
+    x as usize
+}
+
+// The part of the lent target slice that belongs to v.
+pub fn successors<'a>(starts: &[u16], targets: &'a [u16], v: usize) -> &'a [u16]
+    requires { ⌜ Stretch (now starts) (now targets) v ⌝ }
+    ensures { λ r. ⌜ now r ≡ nextOf (now (starts .entry)) (now (targets .entry)) v ⌝ }
+{
+    let from = wide(starts[v]);
+    let upto = wide(starts[v + 1]);
+    &targets[from..upto]
+}
+
+// The test of one vertex by its stretch and the winners.
+pub fn test_vertex(owner: Player, stretch: &[u16], winners: &[u8]) -> Choice
+    requires { ⌜ ((i : ℕ) → i < length (now stretch) → getD (now stretch) i 0 < markRoom (now winners)) ⌝ }
+    ensures { λ r. ⌜ Chooses (owner .bit) (markOf (now (winners .entry))) (now (stretch .entry)) r ⌝ }
+{
+    let mut i = 0;
+    while i < stretch.len() {
+        let w = stretch[i];
+        if mark(winners, wide(w)) == owner.bit {
+            return Choice::To(w);
+        }
+        i += 1;
+    }
+    Choice::Nobody
+}

@@ -1,0 +1,43 @@
+-- "A player is Even (0) or Odd (1), each the opponent of the other." A player is the number 0 or 1, so that omega reads it.
+use Prim.Native.Nat.{ℕ, zero, suc, _-_, _<_, _%_}
+use mathlib.Core.Path.{_≡_}
+use mathlib.Core.Logic.{_⊎_, inl, inr, _≢_}
+use native.Mathlib.Omega.{arith}
+
+abbrev pub even : ℕ
+even = 0
+
+abbrev pub odd : ℕ
+odd = 1
+
+-- the numbers that name a player
+abbrev pub IsPlayer : ℕ → Type 0
+IsPlayer p = p < 2
+
+-- the other player
+abbrev pub opponentOf : ℕ → ℕ
+opponentOf p = 1 - p
+
+-- the player whose parity a priority has
+abbrev pub parityOf : ℕ → ℕ
+parityOf k = k % 2
+
+-- a player is one of two
+pub one-of-two : (p : ℕ) → IsPlayer p → (p ≡ even) ⊎ (p ≡ odd)
+one-of-two zero l = inl (omega arith)
+one-of-two (suc p) l = inr (omega arith)
+
+-- the opponent of the opponent is the player himself
+pub opponent-involution : (p : ℕ) → IsPlayer p → opponentOf (opponentOf p) ≡ p
+opponent-involution p l = omega arith
+
+-- nobody is his own opponent
+pub opponent-other : (p : ℕ) → IsPlayer p → opponentOf p ≢ p
+opponent-other p l = omega arith
+
+-- the opponent is a player, and so is a parity
+pub opponent-player : (p : ℕ) → IsPlayer (opponentOf p)
+opponent-player p = omega arith
+
+pub parity-player : (k : ℕ) → IsPlayer (parityOf k)
+parity-player k = omega arith

@@ -1,0 +1,4 @@
+pub mod Walk
+pub mod Cycle
+pub mod Wins
+pub mod Answer

@@ -1,0 +1,21 @@
+-- Walks: zero or more steps of any relation between vertices.
+use Prim.Native.Nat.{ℕ}
+
+-- a walk of zero or more steps of S from v to u
+pub data Walk (S : ℕ → ℕ → Type 0) : ℕ → ℕ → Type 0 where
+  stay : {v : ℕ} → Walk S v v
+  step : {v w u : ℕ} → S v w → Walk S w u → Walk S v u
+
+-- Laws: walks join, a map of steps maps walks, and what every step keeps a walk keeps.
+
+pub join : {S : ℕ → ℕ → Type 0} {v w u : ℕ} → Walk S v w → Walk S w u → Walk S v u
+join stay b = b
+join (step s a) b = step s (join a b)
+
+pub map-walk : {S R : ℕ → ℕ → Type 0} {v u : ℕ} → ((x y : ℕ) → S x y → R x y) → Walk S v u → Walk R v u
+map-walk f stay = stay
+map-walk f (step s a) = step (f _ _ s) (map-walk f a)
+
+pub follow : {S : ℕ → ℕ → Type 0} {v u : ℕ} (P : ℕ → Type 0) → ((x y : ℕ) → S x y → P x → P y) → P v → Walk S v u → P u
+follow P keep here stay = here
+follow P keep here (step s a) = follow P keep (keep _ _ s here) a
