@@ -2,3 +2,4 @@ pub mod Walk
 pub mod Cycle
 pub mod Wins
 pub mod Answer
+pub mod Verdict

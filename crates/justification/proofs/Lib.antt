@@ -1,0 +1,15 @@
+pub mod Cases
+pub mod Walks
+pub mod Lines
+pub mod KeepStep
+pub mod TurnStep
+pub mod Sums
+pub mod Falls
+pub mod Finished
+pub mod Started
+pub mod Search
+pub mod Trial
+pub mod Changes
+pub mod Leans
+pub mod Determined
+pub mod EachWon

@@ -1,0 +1,1 @@
+// Predecessor lists of a game's edges, and the closure backwards over them.

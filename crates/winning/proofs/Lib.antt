@@ -1,0 +1,14 @@
+pub mod Reflect
+pub mod Reachable
+pub mod Cycles
+pub mod Edges
+pub mod Backed
+pub mod Accepted
+pub mod Won
+pub mod Search
+pub mod Pigeonhole
+pub mod Lasso
+pub mod NobodyTwice
+pub mod Rows
+pub mod Verdict
+pub mod Examples
