@@ -3,3 +3,4 @@ pub mod Starts
 pub mod Sizes
 pub mod Order
 pub mod Said
+pub mod WellFormed

@@ -31,7 +31,7 @@ module _ (n : ℕ) (starts targets : List ℕ) (p : Placed n starts targets) whe
   lowest-found v i l s d =
       record {
         holds = record { vertex = v; is-vertex = l; at = i; place = refl; descent = d .holds };
-        lower = λ y lt f. elim (decLt (f .vertex) v) [ yes k ↦ s .clear (f .vertex) k (record { at = f .at; descent = f .descent }) | no k ↦ later y lt f k (ℕ-discrete (f .vertex) v) ]
+        lower = λ y lt f. elim (decLt (f .vertex) v) [ yes k ↦ s .clear (f .vertex) k (record { at = f .at; descent = f .descent }) | no k ↦ later y lt f k (ℕ-discrete (f .vertex) v) ];
       }
     where
       later : (y : ℕ) → y < getD starts v 0 + i → (f : Fault7 n starts targets y) → ¬ (f .vertex < v) → Dec (f .vertex ≡ v) → ⊥

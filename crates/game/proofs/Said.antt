@@ -1,12 +1,21 @@
--- What the test of the tables says when it has refused.
-use mathlib.Core.Path.{_≡_, sym, subst}
+-- What the test of the tables says when it has refused, and that nothing else satisfies its promise.
+use mathlib.Core.Path.{_≡_, refl, sym, subst, ap}
 use mathlib.Core.List.{List}
 use Rattle.refusal.specs.declared.Refusal.{Refusal}
 use Rattle.refusal.specs.Number.{numberOf}
-use Rattle.refusal.specs.Row.{Row, First, Gives}
+use Rattle.refusal.specs.Row.{Row, First, Gives, first-not-none, first-unique}
+use Rattle.refusal.specs.Found.{refusal-unique}
 use Rattle.game.specs.Answer.{tablesSaid}
 use Rattle.game.specs.declared.tables.Tables.{Tables}
-use Rattle.game.specs.declared.tables.Tables.the-variants.{Refused}
+use Rattle.game.specs.declared.tables.Tables.the-variants.{Passed, Refused}
 
 pub refuses : (rows : List Row) {t : Tables} {r : Refusal} → t ≡ Refused r → First rows (numberOf (r .kind)) (r .place) → Gives rows (tablesSaid t)
 refuses rows e f = subst (λ (t : Tables). Gives rows (tablesSaid t)) (sym e) f
+
+-- no second result satisfies the promise
+pub tables-unique : (rows : List Row) (a b : Tables) → Gives rows (tablesSaid a) → Gives rows (tablesSaid b) → a ≡ b
+tables-unique rows Passed Passed f g = refl
+tables-unique rows Passed (Refused r) f g = absurd (first-not-none rows (numberOf (r .kind)) (r .place) g f)
+tables-unique rows (Refused q) Passed f g = absurd (first-not-none rows (numberOf (q .kind)) (q .place) f g)
+tables-unique rows (Refused q) (Refused r) f g =
+    ap Refused (refusal-unique q r (first-unique rows (numberOf (q .kind)) (numberOf (r .kind)) (q .place) (r .place) f g))

@@ -3,7 +3,7 @@ use Prim.Native.Nat.{ℕ, _+_, _<_, _≤_}
 use mathlib.Core.Path.{_≡_, refl, sym}
 use mathlib.Core.List.{List}
 use native.Mathlib.Omega.{arith}
-use native.Mathlib.Decide.{ℕ-discrete, decLe, decLt}
+use native.Mathlib.Decide.{ℕ-discrete, decLt}
 use lib.ListN.{length}
 use Rattle.refusal.specs.Row.{NoPlace}
 use Rattle.game.specs.Faults.{Fault1, no-vertex, over-2048, differ, not-n+1, over-16384}
@@ -30,5 +30,5 @@ module _ (owners priorities starts targets : List ℕ) where
         few = elim (decLt 2048 (length owners)) [ yes l ↦ absurd (none 0 (over-2048 refl l)) | no h ↦ omega arith ];
         level = elim (ℕ-discrete (length owners) (length priorities)) [ yes e ↦ sym e | no h ↦ absurd (none 0 (differ refl h)) ];
         bounds = elim (ℕ-discrete (length starts) (length owners + 1)) [ yes e ↦ e | no h ↦ absurd (none 0 (not-n+1 refl h)) ];
-        edges = elim (decLt 16384 (length targets)) [ yes l ↦ absurd (none 0 (over-16384 refl l)) | no h ↦ omega arith ]
+        edges = elim (decLt 16384 (length targets)) [ yes l ↦ absurd (none 0 (over-16384 refl l)) | no h ↦ omega arith ];
       }

@@ -4,9 +4,8 @@ use mathlib.Core.Path.{_≡_, sym, subst, ap, _∙_}
 use mathlib.Core.Logic.{_≢_}
 use mathlib.Core.List.{List}
 use native.Mathlib.Omega.{arith}
-use native.Mathlib.Decide.{ℕ-discrete, decLe, decLt}
+use native.Mathlib.Decide.{ℕ-discrete, decLe}
 use native.Mathlib.Nat.{le-refl, le-trans, not-suc-le-zero, add-zero, add-suc, add-sub-of-le}
-use native.Mathlib.Numerals.{add-one}
 use lib.ListN.{length, getD, drop, length-take, length-drop}
 use lib.Seq.{getD-take, getD-drop}
 use Rattle.refusal.specs.Row.{Lowest, NoPlace}
@@ -69,7 +68,7 @@ placed-of n starts targets long none =
       bounds = long;
       first = elim (ℕ-discrete (getD starts 0 0) 0) [ yes e ↦ e | no h ↦ absurd (none 0 (first (omega arith) h)) ];
       onward = up;
-      last = elim (ℕ-discrete (getD starts n 0) (length targets)) [ yes e ↦ e | no h ↦ absurd (none n (last (sym long) h)) ]
+      last = elim (ℕ-discrete (getD starts n 0) (length targets)) [ yes e ↦ e | no h ↦ absurd (none n (last (sym long) h)) ];
     }
   where
     up : (v : ℕ) → v < n → getD starts v 0 ≤ getD starts (v + 1) 0
@@ -102,7 +101,7 @@ stretch-of n starts targets p v l =
     record {
       bound = omega arith;
       onward = p .onward v l;
-      within = subst (λ (k : ℕ). getD starts (v + 1) 0 ≤ k) (p .last) (onward-from n starts targets p (v + 1) n (omega arith) (le-refl n))
+      within = subst (λ (k : ℕ). getD starts (v + 1) 0 ≤ k) (p .last) (onward-from n starts targets p (v + 1) n (omega arith) (le-refl n));
     }
 
 -- how long a stretch is, and what stands in it

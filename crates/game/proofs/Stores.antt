@@ -11,7 +11,7 @@ mark-set l v p h =
     record {
       room = length-set l v p;
       here = getD-set-same l v p 0 h;
-      other = λ u ne. getD-set-other l v u p 0 ne
+      other = λ u ne. getD-set-other l v u p 0 ne;
     }
 
 pub move-set : (l : List ℕ) (v m : ℕ) → v < length l → MoveSet l (set l v m) v m
@@ -20,5 +20,5 @@ move-set l v m h =
     record {
       long = length-set l v m;
       here = getD-set-same l v m 0 h;
-      other = λ u ne. getD-set-other l v u m 0 ne
+      other = λ u ne. getD-set-other l v u m 0 ne;
     }

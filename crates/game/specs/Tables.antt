@@ -16,7 +16,7 @@ gameOf owners priorities starts targets =
       n = length owners;
       owner = λ v. getD owners v 0;
       priority = λ v. getD priorities v 0;
-      next = nextOf starts targets
+      next = nextOf starts targets;
     }
 
 -- the stretches of n vertices follow one another and make up the target list

@@ -1,5 +1,6 @@
 // A test for each of the rows 1 to 7: the lowest place at which it applies, or that it applies nowhere.
-use crate::vertex::{successors, wide};
+use crate::vertex::successors;
+use crate::vertex::wide;
 use refusal::Found;
 ghost use mathlib.Core.Path.{_≡_};
 ghost use Prim.Native.Nat.{_<_};

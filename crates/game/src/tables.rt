@@ -1,6 +1,8 @@
 // The test of the tables: the first of 1 to 7 that applies, with its place.
 use crate::faults;
-use refusal::{Found, Kind, Refusal};
+use refusal::Found;
+use refusal::Kind;
+use refusal::Refusal;
 ghost use Rattle.refusal.specs.Row.{Gives};
 ghost use Rattle.game.specs.Faults.{tableRows};
 ghost use Rattle.game.specs.Answer.{tablesSaid};

@@ -24,8 +24,9 @@ pub fn successors<'a>(starts: &[u16], targets: &'a [u16], v: usize) -> &'a [u16]
     requires { ⌜ Stretch (now starts) (now targets) v ⌝ }
     ensures { λ r. ⌜ now r ≡ nextOf (now (starts .entry)) (now (targets .entry)) v ⌝ }
 {
+    let next = v + 1;
     let from = wide(starts[v]);
-    let upto = wide(starts[v + 1]);
+    let upto = wide(starts[next]);
     &targets[from..upto]
 }
 

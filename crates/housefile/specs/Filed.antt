@@ -53,5 +53,5 @@ module _ (file : List ℕ) where
         priorities = prioritiesFiled;
         starts = startsFiled;
         targets = targetsFiled;
-        rule = ruleFiled
+        rule = ruleFiled;
       }

@@ -1,12 +1,11 @@
 -- "It must be shown that each vertex is won by exactly one player."
 use Prim.Native.Nat.{ℕ, _<_}
-use mathlib.Core.Path.{_≡_, sym, subst}
+use mathlib.Core.Path.{_≡_, subst}
 use native.Mathlib.Decide.{ℕ-discrete}
 use native.Mathlib.Omega.{arith}
 use Rattle.player.specs.Player.{IsPlayer, opponentOf}
 use Rattle.game.specs.Game.{Game, Sound, Moving}
 use Rattle.winning.specs.Wins.{Wins}
-use Rattle.winning.proofs.Backed.{Backed}
 use Rattle.winning.proofs.Accepted.{accepted-right}
 use Rattle.winning.proofs.Won.{accepted-won}
 use Rattle.winning.proofs.NobodyTwice.{nobody-twice}
@@ -35,5 +34,5 @@ each-won g sound moving v l =
       winner = a .0 v;
       player = player;
       wins = won;
-      only = λ p hp h. same-winner g sound moving v p (a .0 v) l hp player h won
+      only = λ p hp h. same-winner g sound moving v p (a .0 v) l hp player h won;
     }

@@ -1,5 +1,5 @@
 -- What falls in both steps: the sum over the vertices of c × (n+2)^priority.
-use Prim.Native.Nat.{ℕ, zero, suc, _+_, _*_, _^_, _<_}
+use Prim.Native.Nat.{ℕ, zero, suc, _+_, _*_, _^_}
 use mathlib.Core.Bool.{Bool, true, false}
 use lib.Dec.{eqb}
 use Rattle.player.specs.Player.{parityOf}

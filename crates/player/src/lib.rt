@@ -8,6 +8,7 @@ pub struct Player {
 
 impl Player {
     pub const EVEN: Player = Player { bit: 0 };
+
     pub const ODD: Player = Player { bit: 1 };
 
     // The other player.

@@ -1,13 +1,14 @@
 -- What a test of one row promises, and what an answer's refusal says in the paper's numbers.
 use Prim.Native.Nat.{ℕ, _+_, _<_}
-use Rattle.refusal.specs.Number.{numberOf}
+use Rattle.refusal.specs.Number.{numberOf, number-injective}
 use Rattle.refusal.specs.Row.{Lowest, NoPlace, Said, refused}
 use Rattle.refusal.specs.declared.Found.{Found}
 use Rattle.refusal.specs.declared.Found.the-variants.{At, Nowhere}
+use Rattle.refusal.specs.declared.Kind.{Kind}
 use Rattle.refusal.specs.declared.Refusal.{Refusal}
 use native.Mathlib.Nat.{not-suc-le-zero}
 use borrow.Author.Count.{below-more}
-use mathlib.Core.Path.{_≡_, subst}
+use mathlib.Core.Path.{_≡_, subst, ap₂}
 
 -- the lowest place at which P holds, or nothing if it holds nowhere
 abbrev pub Finds : (ℕ → Type 0) → Found → Type 0
@@ -17,6 +18,13 @@ Finds P Nowhere = NoPlace P
 -- a refusal's number and place
 abbrev pub saidOf : Refusal → Said
 saidOf r = refused (numberOf (r .kind)) (r .place)
+
+-- a refusal is known by its number and place
+pub refusal-unique : (q r : Refusal) → saidOf q ≡ saidOf r → q ≡ r
+refusal-unique q r e =
+    let k : numberOf (q .kind) ≡ numberOf (r .kind) = cc in
+    let x : q .place ≡ r .place = cc in
+    ap₂ {C = Refusal} (λ (k : Kind) (x : ℕ). record { kind = k; place = x }) (number-injective (q .kind) (r .kind) k) x
 
 -- A scan goes over the places from 0 on: it has passed those below i, and P holds at none of them.
 pub record Scanned (P : ℕ → Type 0) (i : ℕ) : Type 0 where

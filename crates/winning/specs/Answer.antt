@@ -1,7 +1,7 @@
 -- Answers: what a right one is (demand 2), and the rows 11 to 14 that refuse a wrong one. Neither mentions the other.
 use Prim.Native.Nat.{ℕ, _<_}
 use mathlib.Core.Path.{_≡_}
-use mathlib.Core.Logic.{_⊎_, _≢_}
+use mathlib.Core.Logic.{_≢_}
 use mathlib.Core.List.{List, [], _∷_}
 use Rattle.player.specs.Player.{IsPlayer, parityOf}
 use Rattle.refusal.specs.Row.{Row, None}

@@ -1,17 +1,14 @@
+-- `answer::mark` reads the winners' list where `markOf` does.
 use borrow.Author.Needs.{needs}
 use Rattle.game.specs.Answer.{markRoom, markOf}
 use mathlib.Core.Path.{refl}
 use Rattle.game.proofs.answer.mark.Statement.{statement}
 use Rattle.game.proofs.answer.mark.Tie as tie
-use Rattle.game.proofs.answer.mark.Reads as reads
-use Rattle.game.proofs.answer.mark.Lts as lts
 
--- src/answer.rt:11:5
 shared-slice-read-result : tie.Need-shared-slice-read-result
 unfolding markRoom
 shared-slice-read-result c = search needs
 
--- src/answer.rt:7:1
 returns : tie.Need-returns
 unfolding markOf
 returns c = refl

@@ -1,23 +1,18 @@
+-- `answer::record_move` changes one vertex's move: the law of a store (Stores).
 use borrow.Author.Needs.{needs}
 use Rattle.game.proofs.Stores.{move-set}
 use Rattle.game.proofs.answer.record_move.Statement.{statement}
 use Rattle.game.proofs.answer.record_move.Tie as tie
-use Rattle.game.proofs.answer.record_move.Reads as reads
-use Rattle.game.proofs.answer.record_move.Lts as lts
 
--- src/answer.rt:32:5
 mul-moves : tie.Need-mul-moves
 mul-moves c = search needs
 
--- src/answer.rt:32:5
 slice-write-moves : tie.Need-slice-write-moves
 slice-write-moves c = search needs
 
--- src/answer.rt:28:1
 same-length : tie.Need-same-length
 same-length c = search needs
 
--- src/answer.rt:28:1
 returns : tie.Need-returns
 returns c = move-set _ _ _ (c .pre)
 

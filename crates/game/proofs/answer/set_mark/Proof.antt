@@ -1,21 +1,17 @@
+-- `answer::set_mark` changes one vertex's mark: the law of a store (Stores).
 use borrow.Author.Needs.{needs}
 use Rattle.game.proofs.Stores.{mark-set}
 use Rattle.game.specs.Answer.{markRoom}
 use Rattle.game.proofs.answer.set_mark.Statement.{statement}
 use Rattle.game.proofs.answer.set_mark.Tie as tie
-use Rattle.game.proofs.answer.set_mark.Reads as reads
-use Rattle.game.proofs.answer.set_mark.Lts as lts
 
--- src/answer.rt:18:5
 slice-write-winners : tie.Need-slice-write-winners
 unfolding markRoom
 slice-write-winners c = search needs
 
--- src/answer.rt:14:1
 same-length : tie.Need-same-length
 same-length c = search needs
 
--- src/answer.rt:14:1
 returns : tie.Need-returns
 returns c = mark-set _ _ _ (c .pre)
 

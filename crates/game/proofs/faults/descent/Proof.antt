@@ -1,15 +1,14 @@
+-- A scan of one stretch from its second number on: the first has none before it.
 use borrow.Author.Needs.{needs}
 use mathlib.Core.Path.{_≡_, subst}
 use mathlib.Core.List.{List}
 use Rattle.game.specs.Faults.{Descent}
-use Rattle.refusal.specs.Found.{Scanned, scan-none, scan-more, scan-found, scan-all}
+use Rattle.refusal.specs.Found.{Scanned, scan-more, scan-found, scan-all}
 use lib.ListN.{length, getD}
-use Prim.Native.Nat.{ℕ, _≤_, _<_, _-_, _+_}
+use Prim.Native.Nat.{ℕ, _≤_, _<_, _-_}
 use native.Mathlib.Omega.{arith}
 use Rattle.game.proofs.faults.descent.Statement.{statement}
 use Rattle.game.proofs.faults.descent.Tie as tie
-use Rattle.game.proofs.faults.descent.Reads as reads
-use Rattle.game.proofs.faults.descent.Lts as lts
 
 -- a number that is above the one before it
 no-descent : (l : List ℕ) (i : ℕ) → getD l (i - 1) 0 < getD l i 0 → Descent l i → ⊥
@@ -24,51 +23,40 @@ Inv-loop stretch i₀ i = (1 ≤ i) × Scanned (Descent stretch) i
 abbrev μ-loop : tie.MeasureT-loop
 μ-loop stretch i₀ i = length stretch - i
 
--- src/faults.rt:119:5
 loop-holds : tie.Need-loop-holds Inv-loop μ-loop
 loop-holds c = (search needs, record { clear = λ x l f. omega (arith, f .follows) })
 
--- src/faults.rt:120:12
 mul-if1 : tie.Need-mul-if1 Inv-loop μ-loop
 mul-if1 c = search needs
 
--- src/faults.rt:120:12
 shared-slice-read-if1 : tie.Need-shared-slice-read-if1 Inv-loop μ-loop
 shared-slice-read-if1 c = search needs
 
--- src/faults.rt:120:34
 sub-if1 : tie.Need-sub-if1 Inv-loop μ-loop
 sub-if1 c = search needs
 
--- src/faults.rt:120:26
 mul-if1-2 : tie.Need-mul-if1-2 Inv-loop μ-loop
 mul-if1-2 c = search needs
 
--- src/faults.rt:120:26
 shared-slice-read-if1-2 : tie.Need-shared-slice-read-if1-2 Inv-loop μ-loop
 shared-slice-read-if1-2 c = search needs
 
--- src/faults.rt:121:13
 returns : tie.Need-returns Inv-loop μ-loop
 returns c =
     let l = c .before .before .before .before in
     scan-found (l .loop .inv .1) (record { before = l .loop .i - 1; follows = omega arith; within = search needs; not-above = c .if1 .taken })
 
--- src/faults.rt:123:9
 add-i : tie.Need-add-i Inv-loop μ-loop
 add-i c = search needs
 
--- src/faults.rt:119:5
 loop-less : tie.Need-loop-less Inv-loop μ-loop
 loop-less c = search needs
 
--- src/faults.rt:119:5
 loop-again : tie.Need-loop-again Inv-loop μ-loop
 loop-again c =
     let l = c .before .before .before .before in
     (search needs, scan-more (l .loop .inv .1) (no-descent _ _ (c .if1 .left)))
 
--- src/faults.rt:115:1
 returns-2 : tie.Need-returns-2 Inv-loop μ-loop
 returns-2 c = scan-all (c .before .loop .inv .1) (λ x f. omega (arith, f .within))
 

@@ -1,17 +1,12 @@
+-- Row 7: a scan of the vertices; a place in a stretch becomes a place in the targets (Order).
 use borrow.Author.Needs.{needs}
 use Rattle.game.proofs.Order.{Unordered, order-found, order-within, order-more, order-none}
 use Rattle.game.proofs.Starts.{stretch-of}
 use Rattle.refusal.specs.Found.{Scanned, scan-none}
-use lib.ListN.{length, getD}
-use Prim.Native.Nat.{ℕ, _≤_, _<_, _-_, _+_}
+use Prim.Native.Nat.{_≤_, _-_}
 use native.Mathlib.Omega.{arith}
 use Rattle.game.proofs.faults.order.Statement.{statement}
 use Rattle.game.proofs.faults.order.Tie as tie
-use Rattle.game.proofs.faults.order.Reads as reads
-use Rattle.game.proofs.faults.order.Lts as lts
-use Rattle.game.proofs.faults.descent.Reads as descent-reads
-use Rattle.game.proofs.vertex.successors.Reads as successors-reads
-use Rattle.game.proofs.vertex.wide.Reads as wide-reads
 
 abbrev Inv-loop : tie.InvT-loop
 Inv-loop n starts targets v₀ v = (v ≤ n) × Scanned (Unordered starts targets) v
@@ -19,42 +14,33 @@ Inv-loop n starts targets v₀ v = (v ≤ n) × Scanned (Unordered starts target
 abbrev μ-loop : tie.MeasureT-loop
 μ-loop n starts targets v₀ v = n - v
 
--- src/faults.rt:134:5
 loop-holds : tie.Need-loop-holds Inv-loop μ-loop
 loop-holds c = (search needs, scan-none)
 
--- src/faults.rt:135:29
 successors-requires : tie.Need-successors-requires Inv-loop μ-loop
 successors-requires c κs = stretch-of _ _ _ (c .before .before .before .before .pre) _ (search needs)
 
--- src/faults.rt:135:13
 descent-requires : tie.Need-descent-requires Inv-loop μ-loop
 descent-requires c κs = search needs
 
--- src/faults.rt:136:26
 enum-known-found : tie.Need-enum-known-found Inv-loop μ-loop
 enum-known-found c = search needs
 
--- src/faults.rt:137:35
 mul-wide : tie.Need-mul-wide Inv-loop μ-loop
 mul-wide c = search needs
 
--- src/faults.rt:137:35
 shared-slice-read-wide : tie.Need-shared-slice-read-wide Inv-loop μ-loop
 shared-slice-read-wide c = search needs
 
--- src/faults.rt:137:30
 wide-requires : tie.Need-wide-requires Inv-loop μ-loop
 wide-requires c κs = search needs
 
--- src/faults.rt:137:30
 add-t13 : tie.Need-add-t13 Inv-loop μ-loop
 add-t13 c =
     let d = c .before .before .before .before .before in
     let l = d .before .before .before in
     omega (arith, order-within _ _ _ (l .before .before .before .pre) _ _ _ _ _ (search needs) (d .before .successors .ensures) (c .before .before .before .found .given .1) (d .descent .ensures) (c .wide .ensures), l .before .before .before .good)
 
--- src/faults.rt:137:13
 returns : tie.Need-returns Inv-loop μ-loop
 returns c =
     let d = c .before .before .before .before .before in
@@ -64,22 +50,18 @@ returns c =
 enum-told : tie.Need-enum-told Inv-loop μ-loop
 enum-told c = search needs
 
--- src/faults.rt:139:9
 add-v : tie.Need-add-v Inv-loop μ-loop
 add-v c = search needs
 
--- src/faults.rt:134:5
 loop-less : tie.Need-loop-less Inv-loop μ-loop
 loop-less c = search needs
 
--- src/faults.rt:134:5
 loop-again : tie.Need-loop-again Inv-loop μ-loop
 loop-again c =
     let d = c .before .before in
     let l = d .before .before .before in
     (search needs, order-more _ _ _ _ _ (d .before .successors .ensures) (c .enum-told .given .1) (d .descent .ensures) (l .loop .inv .1))
 
--- src/faults.rt:129:1
 returns-2 : tie.Need-returns-2 Inv-loop μ-loop
 returns-2 c = order-none _ _ _ _ (search needs) (c .before .loop .inv .1)
 

@@ -1,13 +1,12 @@
+-- Row 2: a scan; the invariant is that no owner passed is strange.
 use borrow.Author.Needs.{needs}
 use native.Mathlib.Omega.{arith}
-use Prim.Native.Nat.{ℕ, _≤_, _<_, _-_, _+_}
-use lib.ListN.{length, getD}
+use Prim.Native.Nat.{_≤_, _-_}
+use lib.ListN.{length}
 use Rattle.refusal.specs.Found.{Scanned, scan-none, scan-more, scan-found, scan-all}
 use Rattle.game.specs.Faults.{Fault2}
 use Rattle.game.proofs.faults.owner.Statement.{statement}
 use Rattle.game.proofs.faults.owner.Tie as tie
-use Rattle.game.proofs.faults.owner.Reads as reads
-use Rattle.game.proofs.faults.owner.Lts as lts
 
 abbrev Inv-loop : tie.InvT-loop
 Inv-loop owners v₀ v = (v ≤ length owners) × Scanned (Fault2 owners) v
@@ -15,31 +14,24 @@ Inv-loop owners v₀ v = (v ≤ length owners) × Scanned (Fault2 owners) v
 abbrev μ-loop : tie.MeasureT-loop
 μ-loop owners v₀ v = length owners - v
 
--- src/faults.rt:39:5
 loop-holds : tie.Need-loop-holds Inv-loop μ-loop
 loop-holds c = (search needs, scan-none)
 
--- src/faults.rt:40:12
 shared-slice-read-if1 : tie.Need-shared-slice-read-if1 Inv-loop μ-loop
 shared-slice-read-if1 c = search needs
 
--- src/faults.rt:41:13
 returns : tie.Need-returns Inv-loop μ-loop
 returns c = scan-found (c .before .before .before .loop .inv .1) (record { vertex = search needs; strange = λ l. omega arith })
 
--- src/faults.rt:43:9
 add-v : tie.Need-add-v Inv-loop μ-loop
 add-v c = search needs
 
--- src/faults.rt:39:5
 loop-less : tie.Need-loop-less Inv-loop μ-loop
 loop-less c = search needs
 
--- src/faults.rt:39:5
 loop-again : tie.Need-loop-again Inv-loop μ-loop
 loop-again c = (search needs, scan-more (c .before .before .before .loop .inv .1) (λ f. f .strange (search needs)))
 
--- src/faults.rt:35:1
 returns-2 : tie.Need-returns-2 Inv-loop μ-loop
 returns-2 c = scan-all (c .before .loop .inv .1) (λ x f. omega arith)
 

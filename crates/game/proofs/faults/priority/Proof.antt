@@ -1,13 +1,11 @@
+-- Row 3: a scan; the invariant is that no priority passed is 255.
 use borrow.Author.Needs.{needs}
 use Rattle.game.specs.Faults.{Fault3}
 use Rattle.refusal.specs.Found.{Scanned, scan-none, scan-more, scan-found, scan-all}
-use lib.ListN.{length, getD}
-use Prim.Native.Nat.{ℕ, _≤_, _<_, _-_, _+_}
+use Prim.Native.Nat.{_≤_, _-_}
 use native.Mathlib.Omega.{arith}
 use Rattle.game.proofs.faults.priority.Statement.{statement}
 use Rattle.game.proofs.faults.priority.Tie as tie
-use Rattle.game.proofs.faults.priority.Reads as reads
-use Rattle.game.proofs.faults.priority.Lts as lts
 
 abbrev Inv-loop : tie.InvT-loop
 Inv-loop n priorities v₀ v = (v ≤ n) × Scanned (Fault3 n priorities) v
@@ -15,31 +13,24 @@ Inv-loop n priorities v₀ v = (v ≤ n) × Scanned (Fault3 n priorities) v
 abbrev μ-loop : tie.MeasureT-loop
 μ-loop n priorities v₀ v = n - v
 
--- src/faults.rt:54:5
 loop-holds : tie.Need-loop-holds Inv-loop μ-loop
 loop-holds c = (search needs, scan-none)
 
--- src/faults.rt:55:12
 shared-slice-read-if1 : tie.Need-shared-slice-read-if1 Inv-loop μ-loop
 shared-slice-read-if1 c = search needs
 
--- src/faults.rt:56:13
 returns : tie.Need-returns Inv-loop μ-loop
 returns c = scan-found (c .before .before .before .loop .inv .1) (record { vertex = search needs; top = c .if1 .taken })
 
--- src/faults.rt:58:9
 add-v : tie.Need-add-v Inv-loop μ-loop
 add-v c = search needs
 
--- src/faults.rt:54:5
 loop-less : tie.Need-loop-less Inv-loop μ-loop
 loop-less c = search needs
 
--- src/faults.rt:54:5
 loop-again : tie.Need-loop-again Inv-loop μ-loop
 loop-again c = (search needs, scan-more (c .before .before .before .loop .inv .1) (λ f. c .if1 .left (f .top)))
 
--- src/faults.rt:49:1
 returns-2 : tie.Need-returns-2 Inv-loop μ-loop
 returns-2 c = scan-all (c .before .loop .inv .1) (λ x f. omega arith)
 

@@ -1,3 +1,4 @@
+-- Row 1: each test that holds is one of its cases, and if none does the lengths fit one another (Sizes).
 use borrow.Author.Needs.{needs}
 use Rattle.game.proofs.Sizes.{none-of-fitting}
 use Rattle.game.specs.Faults.{no-vertex, over-2048, differ, not-n+1, over-16384}
@@ -5,34 +6,25 @@ use Rattle.refusal.specs.Found.{scan-none, scan-found}
 use mathlib.Core.Path.{refl, sym}
 use Rattle.game.proofs.faults.sizes.Statement.{statement}
 use Rattle.game.proofs.faults.sizes.Tie as tie
-use Rattle.game.proofs.faults.sizes.Reads as reads
-use Rattle.game.proofs.faults.sizes.Lts as lts
 
--- src/faults.rt:17:9
 returns : tie.Need-returns
 returns c = scan-found scan-none (no-vertex refl (c .if1 .taken))
 
--- src/faults.rt:20:9
 returns-2 : tie.Need-returns-2
 returns-2 c = scan-found scan-none (over-2048 refl (c .if2 .taken))
 
--- src/faults.rt:23:9
 returns-3 : tie.Need-returns-3
 returns-3 c = scan-found scan-none (differ refl (λ e. c .if3 .taken (sym e)))
 
--- src/faults.rt:25:24
 add-if4 : tie.Need-add-if4
 add-if4 c = search needs
 
--- src/faults.rt:26:9
 returns-4 : tie.Need-returns-4
 returns-4 c = scan-found scan-none (not-n+1 refl (c .if4 .taken))
 
--- src/faults.rt:29:9
 returns-5 : tie.Need-returns-5
 returns-5 c = scan-found scan-none (over-16384 refl (c .if5 .taken))
 
--- src/faults.rt:12:1
 returns-6 : tie.Need-returns-6
 returns-6 c = none-of-fitting _ _ _ _ (record { some = search needs; few = search needs; level = search needs; bounds = search needs; edges = search needs })
 

@@ -1,16 +1,11 @@
+-- Row 4: the starts passed do not fall (Starts.Rising), and the last is looked at by itself.
 use borrow.Author.Needs.{needs}
-use Rattle.game.proofs.Starts.{rising-to}
-use mathlib.Core.List.{List}
-use mathlib.Core.Path.{_≡_, sym, subst, _∙_}
-use native.Mathlib.Omega.{arith}
-use Rattle.game.proofs.Starts.{Rising, rising-one, rising-more, first-found, below-found, last-found, none-found}
+use mathlib.Core.Path.{sym, _∙_}
+use Rattle.game.proofs.Starts.{Rising, rising-one, rising-more, rising-to, first-found, below-found, last-found, none-found}
 use lib.ListN.{length}
-use Prim.Native.Nat.{ℕ, _≤_, _-_}
+use Prim.Native.Nat.{_≤_, _-_}
 use Rattle.game.proofs.faults.start.Statement.{statement}
 use Rattle.game.proofs.faults.start.Tie as tie
-use Rattle.game.proofs.faults.start.Reads as reads
-use Rattle.game.proofs.faults.start.Lts as lts
-use Rattle.game.proofs.vertex.wide.Reads as wide-reads
 
 abbrev Inv-loop : tie.InvT-loop
 Inv-loop starts targets v₀ v = (1 ≤ v) × (v ≤ length starts) × Rising starts v
@@ -18,81 +13,63 @@ Inv-loop starts targets v₀ v = (1 ≤ v) × (v ≤ length starts) × Rising st
 abbrev μ-loop : tie.MeasureT-loop
 μ-loop starts targets v₀ v = length starts - v
 
--- src/faults.rt:68:8
 shared-slice-read-if1 : tie.Need-shared-slice-read-if1 Inv-loop μ-loop
 shared-slice-read-if1 c = search needs
 
--- src/faults.rt:69:9
 returns : tie.Need-returns Inv-loop μ-loop
 returns c = first-found _ _ (c .if1 .taken)
 
--- src/faults.rt:72:5
 loop-holds : tie.Need-loop-holds Inv-loop μ-loop
 loop-holds c = (search needs, search needs, rising-one)
 
--- src/faults.rt:73:12
 mul-if2 : tie.Need-mul-if2 Inv-loop μ-loop
 mul-if2 c = search needs
 
--- src/faults.rt:73:12
 shared-slice-read-if2 : tie.Need-shared-slice-read-if2 Inv-loop μ-loop
 shared-slice-read-if2 c = search needs
 
--- src/faults.rt:73:31
 sub-if2 : tie.Need-sub-if2 Inv-loop μ-loop
 sub-if2 c = search needs
 
--- src/faults.rt:73:24
 mul-if2-2 : tie.Need-mul-if2-2 Inv-loop μ-loop
 mul-if2-2 c = search needs
 
--- src/faults.rt:73:24
 shared-slice-read-if2-2 : tie.Need-shared-slice-read-if2-2 Inv-loop μ-loop
 shared-slice-read-if2-2 c = search needs
 
--- src/faults.rt:74:13
 returns-2 : tie.Need-returns-2 Inv-loop μ-loop
 returns-2 c =
     let l = c .before .before .before .before in
     below-found _ _ _ (l .before .if1 .left) (l .loop .inv .0) (search needs) (l .loop .inv .2) (c .if2 .taken)
 
--- src/faults.rt:76:9
 add-v : tie.Need-add-v Inv-loop μ-loop
 add-v c = search needs
 
--- src/faults.rt:72:5
 loop-less : tie.Need-loop-less Inv-loop μ-loop
 loop-less c = search needs
 
--- src/faults.rt:72:5
 loop-again : tie.Need-loop-again Inv-loop μ-loop
 loop-again c =
     let l = c .before .before .before .before in
     (search needs, search needs, rising-more _ _ (l .loop .inv .0) (c .if2 .left) (l .loop .inv .2))
 
--- src/faults.rt:78:16
 sub-last : tie.Need-sub-last Inv-loop μ-loop
 sub-last c = search needs
 
--- src/faults.rt:79:13
 mul-wide : tie.Need-mul-wide Inv-loop μ-loop
 mul-wide c = search needs
 
--- src/faults.rt:79:13
 shared-slice-read-wide : tie.Need-shared-slice-read-wide Inv-loop μ-loop
 shared-slice-read-wide c = search needs
 
--- src/faults.rt:79:8
 wide-requires : tie.Need-wide-requires Inv-loop μ-loop
 wide-requires c κs = search needs
 
--- src/faults.rt:80:9
 returns-3 : tie.Need-returns-3 Inv-loop μ-loop
 returns-3 c =
     let l = c .before .before .before .before in
     last-found _ _ _ (l .before .if1 .left) (search needs) (rising-to (search needs) (l .loop .inv .2)) (λ e. c .if3 .taken (c .before .wide .ensures ∙ e))
 
--- src/faults.rt:64:1
 returns-4 : tie.Need-returns-4 Inv-loop μ-loop
 returns-4 c =
     let l = c .before .before .before .before in

@@ -1,16 +1,14 @@
+-- Row 5: a scan; the invariant is that no vertex passed is stuck.
 use borrow.Author.Needs.{needs}
 use mathlib.Core.Path.{ap, sym, _∙_}
 use Rattle.game.proofs.Starts.{stretch-of}
 use Rattle.game.specs.Faults.{Fault5}
 use Rattle.refusal.specs.Found.{Scanned, scan-none, scan-more, scan-found, scan-all}
-use lib.ListN.{length, getD}
-use Prim.Native.Nat.{ℕ, _≤_, _<_, _-_, _+_}
+use lib.ListN.{length}
+use Prim.Native.Nat.{_≤_, _-_}
 use native.Mathlib.Omega.{arith}
 use Rattle.game.proofs.faults.stuck.Statement.{statement}
 use Rattle.game.proofs.faults.stuck.Tie as tie
-use Rattle.game.proofs.faults.stuck.Reads as reads
-use Rattle.game.proofs.faults.stuck.Lts as lts
-use Rattle.game.proofs.vertex.successors.Reads as successors-reads
 
 abbrev Inv-loop : tie.InvT-loop
 Inv-loop n starts targets v₀ v = (v ≤ n) × Scanned (Fault5 n starts targets) v
@@ -18,35 +16,28 @@ Inv-loop n starts targets v₀ v = (v ≤ n) × Scanned (Fault5 n starts targets
 abbrev μ-loop : tie.MeasureT-loop
 μ-loop n starts targets v₀ v = n - v
 
--- src/faults.rt:91:5
 loop-holds : tie.Need-loop-holds Inv-loop μ-loop
 loop-holds c = (search needs, scan-none)
 
--- src/faults.rt:92:12
 successors-requires : tie.Need-successors-requires Inv-loop μ-loop
 successors-requires c κs = stretch-of _ _ _ (c .before .before .before .before .pre) _ (search needs)
 
--- src/faults.rt:93:13
 returns : tie.Need-returns Inv-loop μ-loop
 returns c =
     let l = c .before .before .before in
     scan-found (l .loop .inv .1) (record { vertex = search needs; stuck = ap length (sym (c .before .successors .ensures)) ∙ c .if1 .taken })
 
--- src/faults.rt:95:9
 add-v : tie.Need-add-v Inv-loop μ-loop
 add-v c = search needs
 
--- src/faults.rt:91:5
 loop-less : tie.Need-loop-less Inv-loop μ-loop
 loop-less c = search needs
 
--- src/faults.rt:91:5
 loop-again : tie.Need-loop-again Inv-loop μ-loop
 loop-again c =
     let l = c .before .before .before in
     (search needs, scan-more (l .loop .inv .1) (λ f. c .if1 .left (ap length (c .before .successors .ensures) ∙ f .stuck)))
 
--- src/faults.rt:86:1
 returns-2 : tie.Need-returns-2 Inv-loop μ-loop
 returns-2 c = scan-all (c .before .loop .inv .1) (λ x f. omega (arith, f .vertex))
 

@@ -1,3 +1,4 @@
+-- The rows in turn: each that is passed applies nowhere, and the one that is given applies first.
 use borrow.Author.Needs.{needs}
 use Rattle.game.proofs.Starts.{placed-of}
 use Rattle.game.proofs.Sizes.{Fitting, fitting-of-none}
@@ -13,16 +14,6 @@ use mathlib.Core.Logic.{inl, inr}
 use mathlib.Core.Path.{refl}
 use Rattle.game.proofs.tables.test_tables.Statement.{statement}
 use Rattle.game.proofs.tables.test_tables.Tie as tie
-use Rattle.game.proofs.tables.test_tables.Reads as reads
-use Rattle.game.proofs.tables.test_tables.Lts as lts
-use Rattle.game.proofs.faults.order.Reads as order-reads
-use Rattle.game.proofs.faults.owner.Reads as owner-reads
-use Rattle.game.proofs.faults.priority.Reads as priority-reads
-use Rattle.game.proofs.faults.sizes.Reads as sizes-reads
-use Rattle.game.proofs.faults.start.Reads as start-reads
-use Rattle.game.proofs.faults.stuck.Reads as stuck-reads
-use Rattle.game.proofs.faults.target.Reads as target-reads
-use Rattle.game.proofs.tables.refused.Reads as refused-reads
 
 -- the way back to the entry, and what each row that is passed has shown
 abbrev start1 : tie.After-enum-told → tie.Start
@@ -74,19 +65,15 @@ start7 c = start6 (c .before .before .before)
 none7 : (c : tie.After-enum-told7) → NoPlace (Fault7 (length (now (start7 c .args .owners))) (now (start7 c .args .starts)) (now (start7 c .args .targets)))
 none7 c = found-nowhere (Fault7 (length (now (start7 c .args .owners))) (now (start7 c .args .starts)) (now (start7 c .args .targets))) (c .enum-told7 .given .1) (c .before .before .order .ensures)
 
--- src/tables.rt:24:9
 sizes-requires : tie.Need-sizes-requires
 sizes-requires c κs = search needs
 
--- src/tables.rt:25:22
 enum-known-sizes : tie.Need-enum-known-sizes
 enum-known-sizes c = search needs
 
--- src/tables.rt:26:9
 refused-requires : tie.Need-refused-requires
 refused-requires c κs = search needs
 
--- src/tables.rt:26:9
 returns : tie.Need-returns
 returns c =
     refuses _ (c .refused .ensures) (inl (refl, found-at (Fault1 (now ((c .before .before .before .before .before .before .before .before .before) .args .owners)) (now ((c .before .before .before .before .before .before .before .before .before) .args .priorities)) (now ((c .before .before .before .before .before .before .before .before .before) .args .starts)) (now ((c .before .before .before .before .before .before .before .before .before) .args .targets))) (c .before .before .sizes2 .given .1) (c .before .before .before .before .sizes .ensures)))
@@ -94,19 +81,15 @@ returns c =
 enum-told : tie.Need-enum-told
 enum-told c = search needs
 
--- src/tables.rt:28:9
 owner-requires : tie.Need-owner-requires
 owner-requires c κs = search needs
 
--- src/tables.rt:29:22
 enum-known-owner : tie.Need-enum-known-owner
 enum-known-owner c = search needs
 
--- src/tables.rt:30:9
 refused-requires-2 : tie.Need-refused-requires-2
 refused-requires-2 c κs = search needs
 
--- src/tables.rt:30:9
 returns-2 : tie.Need-returns-2
 returns-2 c =
     let p1 = c .before .before .before .before .before in
@@ -115,19 +98,15 @@ returns-2 c =
 enum-told-2 : tie.Need-enum-told-2
 enum-told-2 c = search needs
 
--- src/tables.rt:32:9
 priority-requires : tie.Need-priority-requires
 priority-requires c κs = fitting (c .before .before .before) .level
 
--- src/tables.rt:33:22
 enum-known-priority : tie.Need-enum-known-priority
 enum-known-priority c = search needs
 
--- src/tables.rt:34:9
 refused-requires-3 : tie.Need-refused-requires-3
 refused-requires-3 c κs = search needs
 
--- src/tables.rt:34:9
 returns-3 : tie.Need-returns-3
 returns-3 c =
     let p2 = c .before .before .before .before .before in
@@ -137,19 +116,15 @@ returns-3 c =
 enum-told-3 : tie.Need-enum-told-3
 enum-told-3 c = search needs
 
--- src/tables.rt:36:9
 start-requires : tie.Need-start-requires
 start-requires c κs = omega (arith, fitting (c .before .before .before .before .before .before) .bounds)
 
--- src/tables.rt:37:22
 enum-known-start : tie.Need-enum-known-start
 enum-known-start c = search needs
 
--- src/tables.rt:38:9
 refused-requires-4 : tie.Need-refused-requires-4
 refused-requires-4 c κs = search needs
 
--- src/tables.rt:38:9
 returns-4 : tie.Need-returns-4
 returns-4 c =
     let p3 = c .before .before .before .before .before in
@@ -160,19 +135,15 @@ returns-4 c =
 enum-told-4 : tie.Need-enum-told-4
 enum-told-4 c = search needs
 
--- src/tables.rt:40:9
 stuck-requires : tie.Need-stuck-requires
 stuck-requires c κs = placed c
 
--- src/tables.rt:41:22
 enum-known-stuck : tie.Need-enum-known-stuck
 enum-known-stuck c = search needs
 
--- src/tables.rt:42:9
 refused-requires-5 : tie.Need-refused-requires-5
 refused-requires-5 c κs = search needs
 
--- src/tables.rt:42:9
 returns-5 : tie.Need-returns-5
 returns-5 c =
     let p4 = c .before .before .before .before .before in
@@ -184,19 +155,15 @@ returns-5 c =
 enum-told-5 : tie.Need-enum-told-5
 enum-told-5 c = search needs
 
--- src/tables.rt:44:9
 target-requires : tie.Need-target-requires
 target-requires c κs = search needs
 
--- src/tables.rt:45:22
 enum-known-target : tie.Need-enum-known-target
 enum-known-target c = search needs
 
--- src/tables.rt:46:9
 refused-requires-6 : tie.Need-refused-requires-6
 refused-requires-6 c κs = search needs
 
--- src/tables.rt:46:9
 returns-6 : tie.Need-returns-6
 returns-6 c =
     let p5 = c .before .before .before .before .before in
@@ -209,19 +176,15 @@ returns-6 c =
 enum-told-6 : tie.Need-enum-told-6
 enum-told-6 c = search needs
 
--- src/tables.rt:48:9
 order-requires : tie.Need-order-requires
 order-requires c κs = placed (c .before .before .before .before .before .before)
 
--- src/tables.rt:49:22
 enum-known-order : tie.Need-enum-known-order
 enum-known-order c = search needs
 
--- src/tables.rt:50:9
 refused-requires-7 : tie.Need-refused-requires-7
 refused-requires-7 c κs = search needs
 
--- src/tables.rt:50:9
 returns-7 : tie.Need-returns-7
 returns-7 c =
     let p6 = c .before .before .before .before .before in
@@ -235,7 +198,6 @@ returns-7 c =
 enum-told-7 : tie.Need-enum-told-7
 enum-told-7 c = search needs
 
--- src/tables.rt:20:1
 returns-8 : tie.Need-returns-8
 returns-8 c =
     let p7 = c in

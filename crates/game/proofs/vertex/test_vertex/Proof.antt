@@ -1,16 +1,13 @@
+-- A scan of the stretch; the invariant is that no successor passed is marked for the owner.
 use borrow.Author.Needs.{needs}
 use Rattle.game.specs.Answer.{markOf, MarkedFor}
 use mathlib.Core.Path.{refl, ap, sym, _∙_}
 use Rattle.refusal.specs.Found.{Scanned, scan-none, scan-more, scan-found, scan-all}
-use lib.ListN.{length, getD}
-use Prim.Native.Nat.{ℕ, _≤_, _<_, _-_, _+_}
+use lib.ListN.{length}
+use Prim.Native.Nat.{_≤_, _-_}
 use native.Mathlib.Omega.{arith}
 use Rattle.game.proofs.vertex.test_vertex.Statement.{statement}
 use Rattle.game.proofs.vertex.test_vertex.Tie as tie
-use Rattle.game.proofs.vertex.test_vertex.Reads as reads
-use Rattle.game.proofs.vertex.test_vertex.Lts as lts
-use Rattle.game.proofs.answer.mark.Reads as mark-reads
-use Rattle.game.proofs.vertex.wide.Reads as wide-reads
 
 abbrev Inv-loop : tie.InvT-loop
 Inv-loop owner stretch winners i₀ i = (i ≤ length stretch) × Scanned (MarkedFor (owner .bit) (markOf winners) stretch) i
@@ -18,29 +15,23 @@ Inv-loop owner stretch winners i₀ i = (i ≤ length stretch) × Scanned (Marke
 abbrev μ-loop : tie.MeasureT-loop
 μ-loop owner stretch winners i₀ i = length stretch - i
 
--- src/vertex.rt:38:5
 loop-holds : tie.Need-loop-holds Inv-loop μ-loop
 loop-holds c = (search needs, scan-none)
 
--- src/vertex.rt:39:17
 mul-w : tie.Need-mul-w Inv-loop μ-loop
 mul-w c = search needs
 
--- src/vertex.rt:39:17
 shared-slice-read-w : tie.Need-shared-slice-read-w Inv-loop μ-loop
 shared-slice-read-w c = search needs
 
--- src/vertex.rt:40:26
 wide-requires : tie.Need-wide-requires Inv-loop μ-loop
 wide-requires c κs = search needs
 
--- src/vertex.rt:40:12
 mark-requires : tie.Need-mark-requires Inv-loop μ-loop
 mark-requires c κs =
     let l = c .before .before .before in
     rw (c .wide .ensures) (l .before .before .before .pre _ (search needs))
 
--- src/vertex.rt:41:13
 returns : tie.Need-returns Inv-loop μ-loop
 returns c =
     let m = c .before .before in
@@ -48,25 +39,21 @@ returns c =
     record {
       at = l .loop .i;
       lowest = scan-found (l .loop .inv .1) (record { within = search needs; his = sym (m .mark .ensures ∙ ap (markOf _) (m .before .wide .ensures)) ∙ c .if1 .taken });
-      is = refl
+      is = refl;
     }
 
--- src/vertex.rt:43:9
 add-i : tie.Need-add-i Inv-loop μ-loop
 add-i c = search needs
 
--- src/vertex.rt:38:5
 loop-less : tie.Need-loop-less Inv-loop μ-loop
 loop-less c = search needs
 
--- src/vertex.rt:38:5
 loop-again : tie.Need-loop-again Inv-loop μ-loop
 loop-again c =
     let m = c .before .before in
     let l = m .before .before .before .before in
     (search needs, scan-more (l .loop .inv .1) (λ f. c .if1 .left (m .mark .ensures ∙ ap (markOf _) (m .before .wide .ensures) ∙ f .his)))
 
--- src/vertex.rt:33:1
 returns-2 : tie.Need-returns-2 Inv-loop μ-loop
 returns-2 c = scan-all (c .before .loop .inv .1) (λ x f. omega (arith, f .within))
 
