@@ -1,11 +1,12 @@
--- Tables that pass row 1 have lengths that fit one another.
-use Prim.Native.Nat.{ℕ, _+_, _<_, _≤_}
+-- Tables that pass row 1 have lengths that fit one another, and buffers that pass row 8 have theirs.
+use Prim.Native.Nat.{ℕ, _+_, _*_, _<_, _≤_}
 use mathlib.Core.Path.{_≡_, refl, sym}
 use mathlib.Core.List.{List}
 use native.Mathlib.Omega.{arith}
 use native.Mathlib.Decide.{ℕ-discrete, decLt}
 use lib.ListN.{length}
 use Rattle.refusal.specs.Row.{NoPlace}
+use Rattle.game.specs.Buffers.{Fault8, winners-long, moves-long, work-long}
 use Rattle.game.specs.Faults.{Fault1, no-vertex, over-2048, differ, not-n+1, over-16384}
 
 pub record Fitting (owners priorities starts targets : List ℕ) : Type 0 where
@@ -32,3 +33,22 @@ module _ (owners priorities starts targets : List ℕ) where
         bounds = elim (ℕ-discrete (length starts) (length owners + 1)) [ yes e ↦ e | no h ↦ absurd (none 0 (not-n+1 refl h)) ];
         edges = elim (decLt 16384 (length targets)) [ yes l ↦ absurd (none 0 (over-16384 refl l)) | no h ↦ omega arith ];
       }
+
+-- buffers that pass row 8
+pub lengths-fit : (n winners moves work : ℕ) → winners ≡ n → moves ≡ n → work ≡ 4 * n → NoPlace (Fault8 n winners moves work)
+lengths-fit n winners moves work a b c x (winners-long _ h) = h a
+lengths-fit n winners moves work a b c x (moves-long _ h) = h b
+lengths-fit n winners moves work a b c x (work-long _ h) = h c
+
+pub record Lent (n winners moves work : ℕ) : Type 0 where
+  pub winners-are : winners ≡ n
+  pub moves-are : moves ≡ n
+  pub work-are : work ≡ 4 * n
+
+pub lent-of-none : (n winners moves work : ℕ) → NoPlace (Fault8 n winners moves work) → Lent n winners moves work
+lent-of-none n winners moves work none =
+    record {
+      winners-are = elim (ℕ-discrete winners n) [ yes e ↦ e | no h ↦ absurd (none 0 (winners-long refl h)) ];
+      moves-are = elim (ℕ-discrete moves n) [ yes e ↦ e | no h ↦ absurd (none 0 (moves-long refl h)) ];
+      work-are = elim (ℕ-discrete work (4 * n)) [ yes e ↦ e | no h ↦ absurd (none 0 (work-long refl h)) ]
+    }

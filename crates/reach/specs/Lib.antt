@@ -1,2 +1,4 @@
 pub mod Lists
 pub mod Closure
+pub mod Build
+pub mod Queue

@@ -1,0 +1,69 @@
+-- From the tests of one vertex by its stretch to the rows 12 and 13 of the game.
+use Prim.Native.Nat.{ℕ, _<_}
+use mathlib.Core.Path.{_≡_, refl, sym, ap, subst, _∙_}
+use mathlib.Core.Logic.{_≢_}
+use mathlib.Core.List.{List}
+use mathlib.Core.Bool.{Bool}
+use native.Mathlib.Omega.{arith}
+use lib.ListN.{length, getD}
+use Rattle.game.specs.Game.{Game, Listed, Edge}
+use Rattle.winning.specs.Answer.{Fault12, Fault13, own, other}
+use Rattle.game.specs.Tables.{nextOf, gameOf}
+use Rattle.game.specs.Answer.{markRoom, markOf, moveOf}
+use Rattle.checker.specs.Checking.{Answered}
+use Rattle.checker.specs.Tests.{Says, OwnMove, WrongMove, Escape}
+use Rattle.checker.proofs.Says.{says-iff}
+use Rattle.checker.specs.Tests as tests
+
+module _ (g : Game) (mark move : ℕ → ℕ) (inside : (v w : ℕ) → v < g .n → Listed w (g .next v) → w < g .n) (v : ℕ) (l : v < g .n) where
+  -- 12 at v is a wrong move by its stretch
+  pub fault12 : WrongMove mark (g .next v) (g .owner v) (mark v) (move v) → Fault12 g mark move v
+  fault12 (tests.own e h) = own l e (λ m. h (record { listed = m .0 .listed; same = m .1 }))
+  fault12 (tests.other e h) = other l e h
+
+  pub fault12-only : Fault12 g mark move v → WrongMove mark (g .next v) (g .owner v) (mark v) (move v)
+  fault12-only (own k e h) = tests.own e (λ m. h (record { from = l; to = inside v (move v) l (m .listed); listed = m .listed }, m .same))
+  fault12-only (other k e h) = tests.other e h
+
+  -- 13 at v is an escape by its stretch
+  pub fault13 : Escape mark (g .next v) (g .owner v) (mark v) → Fault13 g mark move v
+  fault13 h =
+      let at : Listed (getD (g .next v) (h .at) 0) (g .next v) = record { at = h .at; within = h .within; is = refl } in
+      record { loser = h .loser; successor = getD (g .next v) (h .at) 0; edge = record { from = l; to = inside v _ l at; listed = at }; differs = h .differs }
+
+  pub fault13-only : Fault13 g mark move v → Escape mark (g .next v) (g .owner v) (mark v)
+  fault13-only f =
+      record {
+        loser = f .loser;
+        at = f .edge .listed .at;
+        within = f .edge .listed .within;
+        differs = λ e. f .differs (sym (ap mark (f .edge .listed .is)) ∙ e)
+      }
+
+module _ (owners priorities starts targets winners moves : List ℕ) (a : Answered owners priorities starts targets winners moves) (v : ℕ) (l : v < length owners) where
+  -- the successors of v have marks
+  pub stretch-marks : (r : List ℕ) → r ≡ nextOf starts targets v → (i : ℕ) → i < length r → getD r i 0 < markRoom winners
+  stretch-marks r e i h =
+      let w : Listed (getD r i 0) (nextOf starts targets v) = subst (Listed (getD r i 0)) e (record { at = i; within = h; is = refl }) in
+      let k : getD r i 0 < length owners = a .well-formed .sound .inside v (getD r i 0) l w in
+      omega (arith, a .winners-long)
+
+  -- what the tests by the stretch say of the rows
+  pub says12 : {r : List ℕ} {p m : ℕ} {b : Bool} → r ≡ nextOf starts targets v → p ≡ markOf winners v → m ≡ moveOf moves v → Says (WrongMove (markOf winners) r (getD owners v 0) p m) b → Says (Fault12 (gameOf owners priorities starts targets) (markOf winners) (moveOf moves) v) b
+  says12 {r} {p} {m} {b} er ep em s =
+      let s1 = subst (λ (x : List ℕ). Says (WrongMove (markOf winners) x (getD owners v 0) p m) b) er s in
+      let s2 = subst (λ (x : ℕ). Says (WrongMove (markOf winners) (nextOf starts targets v) (getD owners v 0) x m) b) ep s1 in
+      let s3 = subst (λ (x : ℕ). Says (WrongMove (markOf winners) (nextOf starts targets v) (getD owners v 0) (markOf winners v) x) b) em s2 in
+      says-iff
+      (fault12 (gameOf owners priorities starts targets) (markOf winners) (moveOf moves) (a .well-formed .sound .inside) v l)
+      (fault12-only (gameOf owners priorities starts targets) (markOf winners) (moveOf moves) (a .well-formed .sound .inside) v l)
+      s3
+
+  pub says13 : {r : List ℕ} {p : ℕ} {b : Bool} → r ≡ nextOf starts targets v → p ≡ markOf winners v → Says (Escape (markOf winners) r (getD owners v 0) p) b → Says (Fault13 (gameOf owners priorities starts targets) (markOf winners) (moveOf moves) v) b
+  says13 {r} {p} {b} er ep s =
+      let s1 = subst (λ (x : List ℕ). Says (Escape (markOf winners) x (getD owners v 0) p) b) er s in
+      let s2 = subst (λ (x : ℕ). Says (Escape (markOf winners) (nextOf starts targets v) (getD owners v 0) x) b) ep s1 in
+      says-iff
+      (fault13 (gameOf owners priorities starts targets) (markOf winners) (moveOf moves) (a .well-formed .sound .inside) v l)
+      (fault13-only (gameOf owners priorities starts targets) (markOf winners) (moveOf moves) (a .well-formed .sound .inside) v l)
+      s2

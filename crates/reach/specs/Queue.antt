@@ -1,0 +1,62 @@
+-- What the functions of the closure ask and give.
+use Prim.Native.Nat.{ℕ, _+_, _<_, _≤_}
+use mathlib.Core.Path.{_≡_}
+use mathlib.Core.Logic.{_≢_, _⊎_}
+use mathlib.Core.List.{List}
+use lib.ListN.{length, getD}
+use Rattle.reach.specs.Lists.{Preds}
+use Rattle.reach.specs.Closure.{Allowed, Queued, ClosedFrom}
+
+-- v is marked, and all else is as before
+pub record Seeded (before after : List ℕ) (v : ℕ) : Type 0 where
+  pub here : getD after v 0 ≡ 1
+  pub other : (u : ℕ) → u ≢ v → getD after u 0 ≡ getD before u 0
+
+-- the first `tail` places of the queue are as before
+pub record Front (tail : ℕ) (before after : List ℕ) : Type 0 where
+  pub same : (i : ℕ) → i < tail → getD after i 0 ≡ getD before i 0
+
+-- v is no seed yet, and there is room for it
+pub record Seedable (n v : ℕ) (reached queue : List ℕ) (tail : ℕ) : Type 0 where
+  pub queued : Queued n reached queue tail
+  pub vertex : v < n
+  pub unmarked : getD reached v 0 ≡ 0
+  pub small : n ≤ 2048
+
+-- v is one more seed, at the end of the queue
+pub record Pushed (n v : ℕ) (reached queue : List ℕ) (tail : ℕ) (reached′ queue′ : List ℕ) (r : ℕ) : Type 0 where
+  pub one-more : r ≡ tail + 1
+  pub queued : Queued n reached′ queue′ (tail + 1)
+  pub seeded : Seeded reached reached′ v
+  pub front : Front tail queue queue′
+
+-- what the closure asks
+pub record Closable (n : ℕ) (keys heads nexts sources level choice reached queue : List ℕ) (tail : ℕ) : Type 0 where
+  pub preds : Preds n keys heads nexts sources
+  pub small : n ≤ 2048
+  pub level-long : length level ≡ n
+  pub choice-long : length choice ≡ n
+  pub queued : Queued n reached queue tail
+
+-- what the closure gives: r is the number of marked vertices
+pub record Closed (n : ℕ) (keys sources level choice : List ℕ) (bound : ℕ) (reached reached′ queue′ : List ℕ) (r : ℕ) : Type 0 where
+  pub queued : Queued n reached′ queue′ r
+  pub closed : ClosedFrom n keys sources level choice bound reached reached′
+
+-- what a visit to w asks
+pub record Visitable (n w : ℕ) (keys heads nexts sources level choice reached queue : List ℕ) (tail : ℕ) : Type 0 where
+  pub closable : Closable n keys heads nexts sources level choice reached queue tail
+  pub vertex : w < n
+
+-- marks and queue have grown, and each new mark has an allowed step to w
+pub record Grown (n w : ℕ) (keys sources level choice : List ℕ) (bound : ℕ) (reached queue : List ℕ) (tail : ℕ) (reached′ queue′ : List ℕ) (tail′ : ℕ) : Type 0 where
+  pub queued : Queued n reached′ queue′ tail′
+  pub longer : tail ≤ tail′
+  pub front : Front tail queue queue′
+  pub kept : (v : ℕ) → getD reached v 0 ≡ 1 → getD reached′ v 0 ≡ 1
+  pub reason : (v : ℕ) → getD reached′ v 0 ≡ 1 → (getD reached v 0 ≡ 1) ⊎ Allowed keys sources level choice bound v w
+
+-- a visit to w: marks have grown by what has an allowed step to w, by all of it
+pub record Visited (n w : ℕ) (keys sources level choice : List ℕ) (bound : ℕ) (reached queue : List ℕ) (tail : ℕ) (reached′ queue′ : List ℕ) (r : ℕ) : Type 0 where
+  pub grown : Grown n w keys sources level choice bound reached queue tail reached′ queue′ r
+  pub all : (v : ℕ) → Allowed keys sources level choice bound v w → getD reached′ v 0 ≡ 1
