@@ -37,7 +37,7 @@ module _ (g : Game) (mark move : ℕ → ℕ) (inside : (v w : ℕ) → v < g .n
         loser = f .loser;
         at = f .edge .listed .at;
         within = f .edge .listed .within;
-        differs = λ e. f .differs (sym (ap mark (f .edge .listed .is)) ∙ e)
+        differs = λ e. f .differs (sym (ap mark (f .edge .listed .is)) ∙ e);
       }
 
 module _ (owners priorities starts targets winners moves : List ℕ) (a : Answered owners priorities starts targets winners moves) (v : ℕ) (l : v < length owners) where

@@ -1,6 +1,8 @@
 // The tests 11, 12 and 13, each over all vertices, with the lowest vertex at fault.
-use game::answer::{mark, recorded};
-use game::vertex::{successors, wide};
+use game::answer::mark;
+use game::answer::recorded;
+use game::vertex::successors;
+use game::vertex::wide;
 use refusal::Found;
 ghost use mathlib.Core.Path.{_≡_};
 ghost use Rattle.game.specs.Game.{Listed};

@@ -50,5 +50,5 @@ lent-of-none n winners moves work none =
     record {
       winners-are = elim (ℕ-discrete winners n) [ yes e ↦ e | no h ↦ absurd (none 0 (winners-long refl h)) ];
       moves-are = elim (ℕ-discrete moves n) [ yes e ↦ e | no h ↦ absurd (none 0 (moves-long refl h)) ];
-      work-are = elim (ℕ-discrete work (4 * n)) [ yes e ↦ e | no h ↦ absurd (none 0 (work-long refl h)) ]
+      work-are = elim (ℕ-discrete work (4 * n)) [ yes e ↦ e | no h ↦ absurd (none 0 (work-long refl h)) ];
     }

@@ -6,3 +6,4 @@ pub mod Builds
 pub mod Chains
 pub mod Visits
 pub mod Closing
+pub mod Sections

@@ -2,3 +2,4 @@ pub mod Lists
 pub mod Closure
 pub mod Build
 pub mod Queue
+pub mod Work
