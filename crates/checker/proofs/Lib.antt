@@ -1,2 +1,3 @@
 pub mod Says
 pub mod Stretches
+pub mod Rounds

@@ -29,3 +29,15 @@ pub record Escape (mark : ℕ → ℕ) (next : List ℕ) (owner p : ℕ) : Type 
   pub at : ℕ
   pub within : at < length next
   pub differs : mark (getD next at 0) ≢ p
+
+-- a step back among the marked vertices: to the recorded move m if there is one, else to any successor
+pub record Comes (next : List ℕ) (m : ℕ) (marks : List ℕ) : Type 0 where
+  pub to : ℕ
+  pub listed : Listed to next
+  pub fixed : m ≢ noMove → to ≡ m
+  pub marked : getD marks to 0 ≡ 1
+
+-- only x is marked
+pub record Single (n : ℕ) (marks : List ℕ) (x : ℕ) : Type 0 where
+  pub here : getD marks x 0 ≡ 1
+  pub only : (u : ℕ) → u < n → getD marks u 0 ≡ 1 → u ≡ x

@@ -1,0 +1,72 @@
+-- Row 14 at x by the closure: x lies on a cycle by the recorded moves with its own priority as the highest exactly if a recorded
+-- step leads from x to a vertex from which recorded steps among priorities of at most x's lead back to x.
+use Prim.Native.Nat.{ℕ, _<_, _≤_}
+use mathlib.Core.Path.{_≡_, refl, sym, ap, subst, _∙_}
+use mathlib.Core.Logic.{_≢_}
+use mathlib.Core.List.{List}
+use native.Mathlib.Omega.{arith}
+use native.Mathlib.Decide.{ℕ-discrete}
+use lib.ListN.{length, getD}
+use Rattle.player.specs.Player.{parityOf}
+use Rattle.game.specs.Game.{Edge, Sound}
+use Rattle.game.specs.Tables.{nextOf, gameOf}
+use Rattle.game.specs.Answer.{markOf, moveOf}
+use Rattle.winning.specs.Walk.{Walk, stay, step, map-walk, follow}
+use Rattle.winning.specs.Cycle.{Low}
+use Rattle.winning.specs.Answer.{noMove, Recorded, Fault14}
+use Rattle.winning.proofs.Backed.{Backed}
+use Rattle.winning.proofs.Cycles.{round-of, cycle-of}
+use Rattle.reach.specs.Lists.{EdgesOf}
+use Rattle.reach.specs.Closure.{Allowed, ClosedFrom}
+use Rattle.checker.specs.Tests.{Comes, Single}
+
+-- marks that are closed backwards hold all along a walk to a marked vertex
+back : (S : ℕ → ℕ → Type 0) (marks : List ℕ) → ((v w : ℕ) → S v w → getD marks w 0 ≡ 1 → getD marks v 0 ≡ 1) → {v u : ℕ} → Walk S v u → getD marks u 0 ≡ 1 → getD marks v 0 ≡ 1
+back S marks closed stay h = h
+back S marks closed (step s w) h = closed _ _ s (back S marks closed w h)
+
+module _ (owners priorities starts targets winners moves sources : List ℕ) (sound : Sound (gameOf owners priorities starts targets)) (edges : EdgesOf (length owners) starts targets sources) (b : Backed (gameOf owners priorities starts targets) (markOf winners) (moveOf moves)) where
+  -- a recorded step from a vertex of priority at most k is an allowed step, and the other way round
+  allowed : (k v w : ℕ) → Low (gameOf owners priorities starts targets) (Recorded (gameOf owners priorities starts targets) (markOf winners) (moveOf moves)) k v w → Allowed targets sources priorities moves k v w
+  unfolding moveOf
+  allowed k v w s =
+      record {
+        edge = edges .number owners priorities refl v w (s .taken .edge);
+        low = s .low;
+        fixed = λ h. elim (ℕ-discrete (getD owners v 0) (markOf winners v)) [ yes e ↦ s .taken .fixed e | no ne ↦ absurd (h (b .elsewhere v (s .taken .edge .from) ne)) ]
+      }
+
+  recorded : (k v w : ℕ) → Allowed targets sources priorities moves k v w → Low (gameOf owners priorities starts targets) (Recorded (gameOf owners priorities starts targets) (markOf winners) (moveOf moves)) k v w
+  unfolding moveOf
+  recorded k v w a =
+      let e : Edge (gameOf owners priorities starts targets) v w = edges .edge owners priorities refl v w (a .edge) in
+      record {
+        taken = record { edge = e; fixed = λ o. a .fixed (λ z. omega (arith, sound .few, b .owned v (e .from) o .0 .to)) };
+        low = a .low
+      }
+
+  module _ (x : ℕ) (lost : parityOf (getD priorities x 0) ≢ markOf winners x) (l : x < length owners) (before after : List ℕ) (one : Single (length owners) before x) (c : ClosedFrom (length owners) targets sources priorities moves (getD priorities x 0) before after) where
+    end-within : {v u : ℕ} → v < length owners → Walk (Allowed targets sources priorities moves (getD priorities x 0)) v u → u < length owners
+    end-within h w = follow (λ (y : ℕ). y < length owners) (λ v y a k. edges .edge owners priorities refl v y (a .edge) .to) h w
+
+    pub fault14 : Comes (nextOf starts targets x) (moveOf moves x) after → Fault14 (gameOf owners priorities starts targets) (markOf winners) (moveOf moves) x
+    fault14 h =
+        let i : h .to < length owners = sound .inside x (h .to) l (h .listed) in
+        let s : Recorded (gameOf owners priorities starts targets) (markOf winners) (moveOf moves) x (h .to) =
+            record { edge = record { from = l; to = i; listed = h .listed }; fixed = λ o. h .fixed (λ z. omega (arith, sound .few, b .owned x l o .0 .to)) }
+        in
+        let r = c .reason (h .to) i (h .marked) in
+        let e : r .seed ≡ x = one .only (r .seed) (end-within i (r .walk)) (r .marked) in
+        let w = map-walk (recorded (getD priorities x 0)) (subst (Walk (Allowed targets sources priorities moves (getD priorities x 0)) (h .to)) e (r .walk)) in
+        let cycle = cycle-of (gameOf owners priorities starts targets) (Recorded (gameOf owners priorities starts targets) (markOf winners) (moveOf moves)) x (h .to) s w in
+        record { rest = cycle .0; cycle = cycle .1; own-highest = cycle .2; lost = lost }
+
+    pub fault14-only : Fault14 (gameOf owners priorities starts targets) (markOf winners) (moveOf moves) x → Comes (nextOf starts targets x) (moveOf moves x) after
+    fault14-only f =
+        let r = round-of (gameOf owners priorities starts targets) (Recorded (gameOf owners priorities starts targets) (markOf winners) (moveOf moves)) x (f .rest) (f .cycle) (f .own-highest) in
+        record {
+          to = r .0;
+          listed = r .1 .edge .listed;
+          fixed = λ h. elim (ℕ-discrete (getD owners x 0) (markOf winners x)) [ yes e ↦ r .1 .fixed e | no ne ↦ absurd (h (b .elsewhere x l ne)) ];
+          marked = back (Allowed targets sources priorities moves (getD priorities x 0)) after (c .closed) (map-walk (allowed (getD priorities x 0)) (r .2)) (c .kept x l (one .here))
+        }

@@ -1,0 +1,8 @@
+// The solver: winners and moves of a game, by fixpoint iteration with justifications, one vertex at a time.
+use refusal::Refusal;
+
+// Solved, or the first of 1 to 8 that applies.
+pub enum Solved {
+    Done,
+    Refused(Refusal),
+}
