@@ -1,15 +1,18 @@
 -- The closure visits the queue's places in turn: those behind are closed, every mark has its reason, and at the end all is closed.
-use Prim.Native.Nat.{ℕ, _+_, _<_, _≤_}
-use mathlib.Core.Path.{_≡_, sym, subst}
+use Prim.Native.Nat.{ℕ, _+_, _*_, _<_, _≤_}
+use mathlib.Core.Path.{_≡_, refl, sym, subst, _∙_}
 use mathlib.Core.Logic.{⊎-elim}
 use mathlib.Core.List.{List}
 use native.Mathlib.Omega.{arith}
 use native.Mathlib.Nat.{not-suc-le-zero}
 use native.Mathlib.Decide.{decLt}
-use lib.ListN.{getD}
+use lib.ListN.{length, getD}
 use Rattle.winning.specs.Walk.{stay, step}
 use Rattle.reach.specs.Closure.{Allowed, Queued, Reason}
-use Rattle.reach.specs.Queue.{Closable, Closed, Visitable, Grown, Visited}
+use Rattle.reach.specs.Work.{section, Beside}
+use Rattle.reach.specs.Queue.{Closable, Closed, Visitable, Grown, Visited, ClosableIn, ClosedIn, VisitableIn, VisitedIn}
+use Rattle.reach.proofs.Queues.{tail-bounded}
+use Rattle.reach.proofs.Sections.{section-read, beside-none, beside-more}
 
 -- the first h places of the queue are visited
 pub record Closing (n : ℕ) (keys sources level choice : List ℕ) (bound : ℕ) (reached₀ reached queue : List ℕ) (end h : ℕ) : Type 0 where
@@ -72,3 +75,41 @@ module _ {n : ℕ} {keys heads nexts sources level choice reached₀ queue₀ : 
           let in-n : w < n = subst (λ (k : ℕ). k < n) (i .into) (p .preds .target (a .edge .number) (i .within)) in
           let at = c .queued .place w in-n m in
           c .done (at .0) (omega (arith, at .1)) v (subst (λ (k : ℕ). Allowed keys sources level choice bound v k) (sym (at .2)) a)
+
+-- The same in the work space.
+
+pub record ClosingIn (n : ℕ) (keys sources choice : List ℕ) (bound : ℕ) (work₀ work : List ℕ) (end h : ℕ) : Type 0 where
+  pub closing : Closing n keys sources (section 0 n work₀) choice bound (section 1 n work₀) (section 1 n work) (section 2 n work) end h
+  pub beside : Beside n work₀ work
+
+module _ {n : ℕ} {keys heads nexts sources choice work₀ : List ℕ} {tail : ℕ} (p : ClosableIn n keys heads nexts sources choice work₀ tail) {bound : ℕ} where
+  pub closing-in-none : ClosingIn n keys sources choice bound work₀ work₀ tail 0
+  closing-in-none = record { closing = closing-none (p .closable .queued); beside = beside-none }
+
+  module _ {work : List ℕ} {end h : ℕ} (c : ClosingIn n keys sources choice bound work₀ work end h) where
+    closing-in-long : length work ≡ 4 * n
+    closing-in-long = c .beside .long ∙ p .long
+
+    -- a turn's place is one of the queue's, of which there are n
+    pub closing-in-place : h < end → h < n
+    closing-in-place l = omega (arith, tail-bounded (c .closing .queued))
+
+    is : h < end → getD work (2 * n + h) 0 ≡ getD (section 2 n work) h 0
+    is l = section-read n work closing-in-long 2 h refl (closing-in-place l)
+
+    pub closing-in-visit : h < end → VisitableIn n (getD work (2 * n + h) 0) keys heads nexts sources choice work end
+    closing-in-visit l =
+        record {
+          long = closing-in-long;
+          visitable = rw (c .beside .levels, is l) (closing-visit (p .closable) (c .closing) l);
+        }
+
+    pub closing-in-more : {work′ : List ℕ} {r : ℕ} → h < end → VisitedIn n (getD work (2 * n + h) 0) keys sources choice bound work end work′ r → ClosingIn n keys sources choice bound work₀ work′ r (h + 1)
+    closing-in-more {work′} {r} l d =
+        record {
+          closing = closing-more (p .closable) (c .closing) l (rw (c .beside .levels, is l) at (d .visited));
+          beside = beside-more (c .beside) (d .beside);
+        }
+
+    pub closing-in-all : end ≤ h → ClosedIn n keys sources choice bound work₀ work end
+    closing-in-all l = record { closed = closing-all (p .closable) (c .closing) l; beside = c .beside }

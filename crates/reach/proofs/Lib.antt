@@ -1,4 +1,5 @@
 pub mod Stores
+pub mod Sections
 pub mod Count
 pub mod Queues
 pub mod Links
@@ -6,4 +7,3 @@ pub mod Builds
 pub mod Chains
 pub mod Visits
 pub mod Closing
-pub mod Sections

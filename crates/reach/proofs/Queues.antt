@@ -1,5 +1,5 @@
 -- The queue of marked vertices: a fresh one, one more seed, and the marks taken back.
-use Prim.Native.Nat.{ℕ, _+_, _<_, _≤_}
+use Prim.Native.Nat.{ℕ, _+_, _*_, _<_, _≤_}
 use mathlib.Core.Path.{_≡_, refl, sym, subst, ap, _∙_}
 use mathlib.Core.Logic.{_≢_}
 use mathlib.Core.List.{List}
@@ -10,8 +10,10 @@ use lib.ListN.{length, getD, set, length-set}
 use lib.Seq.{getD-set-same, getD-set-other}
 use Rattle.reach.specs.Lists.{Filled}
 use Rattle.reach.specs.Closure.{Queued}
-use Rattle.reach.specs.Queue.{Seedable, Pushed}
+use Rattle.reach.specs.Work.{section, Beside}
+use Rattle.reach.specs.Queue.{Seedable, Pushed, SeedableIn, PushedIn, ClearableIn, ClearedIn}
 use Rattle.reach.proofs.Stores.{at-set}
+use Rattle.reach.proofs.Sections.{section-long, section-read, section-filled, Stored, stored, beside-none, beside-more, beside-stored}
 use Rattle.reach.proofs.Count.{count-bounded, count-none, count-set, count-room}
 
 -- no marks, no queue
@@ -124,3 +126,75 @@ clearing-all {n} {queue} {tail} {reached} {i} c l =
   where
     none : (v : ℕ) → v < length reached → getD reached v 0 ≢ 0 → ⊥
     none v m ne = let p = c .left v (omega (arith, c .long)) ne in omega (arith, p .1, p .2)
+
+-- The same in the work space.
+
+-- no marks, no queue
+pub fresh-in : (n : ℕ) (work : List ℕ) → length work ≡ 4 * n → Filled (section 1 n work) 0 → Queued n (section 1 n work) (section 2 n work) 0
+fresh-in n work long clean =
+    fresh n _ _ (section-long n work long 1 (omega arith)) (section-long n work long 2 (omega arith)) clean
+
+pub filled-queued : {n : ℕ} {work : List ℕ} → length work ≡ 4 * n → Filled work 0 → Queued n (section 1 n work) (section 2 n work) 0
+filled-queued {n} {work} long clean = fresh-in n work long (section-filled n work long clean 1 (omega arith))
+
+pub cleared-queued : {n : ℕ} {work work′ : List ℕ} → length work ≡ 4 * n → ClearedIn n work work′ → Queued n (section 1 n work′) (section 2 n work′) 0
+cleared-queued long c = fresh-in _ _ (c .beside .long ∙ long) (c .filled)
+
+pub pushed-in : {n v : ℕ} {work : List ℕ} {tail : ℕ} → SeedableIn n v work tail → PushedIn n v work tail (set (set work (n + v) 1) (2 * n + tail) v) (tail + 1)
+pushed-in {n} {v} {work} {tail} s =
+    record {
+      pushed = rw (marks, places) (pushed n v _ _ tail (s .seedable));
+      beside = beside-more (beside-stored (omega arith) (omega arith) mark) (beside-stored (omega arith) (omega arith) place);
+    }
+  where
+    middle : List ℕ
+    middle = set work (n + v) 1
+
+    after : List ℕ
+    after = set middle (2 * n + tail) v
+
+    mark : Stored n 1 v 1 work middle
+    mark = stored 1 v (s .long) (omega arith) (omega arith) (s .seedable .vertex)
+
+    place : Stored n 2 tail v middle after
+    place = stored 2 tail (mark .long ∙ s .long) refl (omega arith) (room (s .seedable))
+
+    marks : section 1 n after ≡ set (section 1 n work) v 1
+    marks = place .other 1 (omega arith) (omega arith) ∙ mark .here
+
+    places : section 2 n after ≡ set (section 2 n work) tail v
+    places = place .here ∙ ap (λ (l : List ℕ). set l tail v) (mark .other 2 (omega arith) (omega arith))
+
+-- the marks that are left are in the queue from place i on
+pub record ClearingIn (n : ℕ) (work₀ : List ℕ) (tail : ℕ) (work : List ℕ) (i : ℕ) : Type 0 where
+  pub clearing : Clearing n (section 2 n work₀) tail (section 1 n work) i
+  pub queue : section 2 n work ≡ section 2 n work₀
+  pub beside : Beside n work₀ work
+
+module _ {n : ℕ} {work₀ : List ℕ} {tail : ℕ} (p : ClearableIn n work₀ tail) where
+  pub clearing-in-none : ClearingIn n work₀ tail work₀ 0
+  clearing-in-none = record { clearing = clearing-none (p .queued); queue = refl; beside = beside-none }
+
+  module _ {work : List ℕ} {i : ℕ} (c : ClearingIn n work₀ tail work i) where
+    long : length work ≡ 4 * n
+    long = c .beside .long ∙ p .long
+
+    is : i < tail → getD work (2 * n + i) 0 ≡ getD (section 2 n work₀) i 0
+    is l = section-read n work long 2 i refl (omega (arith, tail-bounded (p .queued))) ∙ ap (λ (s : List ℕ). getD s i 0) (c .queue)
+
+    pub clearing-in-vertex : i < tail → getD work (2 * n + i) 0 < n
+    clearing-in-vertex l = subst (λ (v : ℕ). v < n) (sym (is l)) (p .queued .vertex i l)
+
+    pub clearing-in-more : i < tail → ClearingIn n work₀ tail (set work (n + getD work (2 * n + i) 0) 0) (i + 1)
+    clearing-in-more l =
+        record {
+          clearing = rw (mark .here) (clearing-more (c .clearing) (p .queued .vertex i l));
+          queue = mark .other 2 (omega arith) (omega arith) ∙ c .queue;
+          beside = beside-more (c .beside) (beside-stored (omega arith) (omega arith) mark);
+        }
+      where
+        mark : Stored n 1 (getD (section 2 n work₀) i 0) 0 work (set work (n + getD work (2 * n + i) 0) 0)
+        mark = stored 1 _ long (omega (arith, is l)) (omega arith) (p .queued .vertex i l)
+
+    pub cleared : tail ≤ i → ClearedIn n work₀ work
+    cleared l = record { filled = clearing-all (c .clearing) l; queue = c .queue; beside = c .beside }

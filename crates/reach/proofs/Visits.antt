@@ -1,6 +1,6 @@
 -- A visit to w walks the edges into it: marks and queue grow by the starts of allowed steps, and none is passed over.
-use Prim.Native.Nat.{ℕ, _<_, _≤_}
-use mathlib.Core.Path.{_≡_, refl, sym, subst, _∙_}
+use Prim.Native.Nat.{ℕ, _+_, _*_, _<_, _≤_}
+use mathlib.Core.Path.{_≡_, refl, sym, subst, ap, _∙_}
 use mathlib.Core.Logic.{_≢_, _⊎_, inl, inr}
 use mathlib.Core.List.{List}
 use native.Mathlib.Omega.{arith}
@@ -8,7 +8,9 @@ use native.Mathlib.Decide.{ℕ-discrete}
 use lib.ListN.{length, getD}
 use Rattle.reach.specs.Lists.{nil, Preds}
 use Rattle.reach.specs.Closure.{Allowed}
-use Rattle.reach.specs.Queue.{Seedable, Pushed, Visitable, Grown, Visited}
+use Rattle.reach.specs.Work.{section, Beside}
+use Rattle.reach.specs.Queue.{Seedable, Pushed, Visitable, Grown, Visited, SeedableIn, PushedIn, VisitableIn, VisitedIn}
+use Rattle.reach.proofs.Sections.{section-read, beside-none, beside-more}
 use Rattle.reach.proofs.Queues.{pushed-queued}
 use Rattle.reach.proofs.Chains.{Passed, passed-none, cursor-edge, passed-more, passed-all}
 
@@ -101,3 +103,56 @@ visited {n} {w} {keys} {sources} {level} {choice} {bound} {reached₀} {queue₀
         let i = a .edge .is in
         let d : Done sources level choice bound w reached (a .edge .number) = passed-all l (h .passed) (a .edge .number) (i .within) (i .into) in
         subst (λ (x : ℕ). getD level x 0 ≤ bound → (getD choice x 0 ≢ nil → w ≡ getD choice x 0) → getD reached x 0 ≡ 1) (i .from) (d .marked) (a .low) (a .fixed)
+
+-- The same in the work space.
+
+pub record VisitingIn (n w : ℕ) (keys sources choice : List ℕ) (bound : ℕ) (work₀ : List ℕ) (tail : ℕ) (work : List ℕ) (e end : ℕ) : Type 0 where
+  pub visiting : Visiting n w keys sources (section 0 n work₀) choice bound (section 1 n work₀) (section 2 n work₀) tail (section 1 n work) (section 2 n work) e end
+  pub beside : Beside n work₀ work
+
+module _ {n w : ℕ} {keys heads nexts sources choice work₀ : List ℕ} {tail : ℕ} (p : VisitableIn n w keys heads nexts sources choice work₀ tail) where
+  pub visiting-in-none : {bound : ℕ} → VisitingIn n w keys sources choice bound work₀ tail work₀ (getD heads w 0) tail
+  visiting-in-none = record { visiting = visiting-none (p .visitable); beside = beside-none }
+
+  module _ {bound : ℕ} {work : List ℕ} {e end : ℕ} (l : e < nil) (h : VisitingIn n w keys sources choice bound work₀ tail work e end) where
+    visiting-in-long : length work ≡ 4 * n
+    visiting-in-long = h .beside .long ∙ p .long
+
+    pub visiting-in-edge : e < length keys
+    visiting-in-edge = visiting-edge (p .visitable) l (h .visiting)
+
+    pub visiting-in-source : getD sources e 0 < n
+    visiting-in-source = visiting-source (p .visitable) l (h .visiting)
+
+    -- the mark and the level of the edge's start
+    mark : getD work (n + getD sources e 0) 0 ≡ getD (section 1 n work) (getD sources e 0) 0
+    mark = section-read n work visiting-in-long 1 _ (omega arith) visiting-in-source
+
+    low : getD work (getD sources e 0) 0 ≡ getD (section 0 n work₀) (getD sources e 0) 0
+    low = section-read n work visiting-in-long 0 _ (omega arith) visiting-in-source ∙ ap (λ (s : List ℕ). getD s (getD sources e 0) 0) (h .beside .levels)
+
+    pub skip-marked-in : getD work (n + getD sources e 0) 0 ≢ 0 → VisitingIn n w keys sources choice bound work₀ tail work (getD nexts e 0) end
+    skip-marked-in ne =
+        record { visiting = skip-marked (p .visitable) l (h .visiting) (λ z. ne (mark ∙ z)); beside = h .beside }
+
+    pub skip-high-in : bound < getD work (getD sources e 0) 0 → VisitingIn n w keys sources choice bound work₀ tail work (getD nexts e 0) end
+    skip-high-in high =
+        record { visiting = skip-high (p .visitable) l (h .visiting) (subst (λ (x : ℕ). bound < x) low high); beside = h .beside }
+
+    pub skip-fixed-in : getD choice (getD sources e 0) 0 ≢ nil → getD choice (getD sources e 0) 0 ≢ w → VisitingIn n w keys sources choice bound work₀ tail work (getD nexts e 0) end
+    skip-fixed-in ne other =
+        record { visiting = skip-fixed (p .visitable) l (h .visiting) ne other; beside = h .beside }
+
+    pub seedable-in : getD work (n + getD sources e 0) 0 ≡ 0 → SeedableIn n (getD sources e 0) work end
+    seedable-in z =
+        record { long = visiting-in-long; seedable = seedable (p .visitable) l (h .visiting) (sym mark ∙ z) }
+
+    pub push-in : {work′ : List ℕ} {r : ℕ} → getD work (getD sources e 0) 0 ≤ bound → (getD choice (getD sources e 0) 0 ≢ nil → w ≡ getD choice (getD sources e 0) 0) → PushedIn n (getD sources e 0) work end work′ r → VisitingIn n w keys sources choice bound work₀ tail work′ (getD nexts e 0) r
+    push-in within fixed q =
+        record {
+          visiting = push (p .visitable) l (h .visiting) (subst (λ (x : ℕ). x ≤ bound) low within) fixed (q .pushed);
+          beside = beside-more (h .beside) (q .beside);
+        }
+
+pub visited-in : {n w : ℕ} {keys sources choice : List ℕ} {bound : ℕ} {work₀ : List ℕ} {tail : ℕ} {work : List ℕ} {e end : ℕ} → nil ≤ e → VisitingIn n w keys sources choice bound work₀ tail work e end → VisitedIn n w keys sources choice bound work₀ tail work end
+visited-in l h = record { visited = visited l (h .visiting); beside = h .beside }

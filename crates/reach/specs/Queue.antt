@@ -1,11 +1,12 @@
 -- What the functions of the closure ask and give.
-use Prim.Native.Nat.{ℕ, _+_, _<_, _≤_}
+use Prim.Native.Nat.{ℕ, _+_, _*_, _<_, _≤_}
 use mathlib.Core.Path.{_≡_}
 use mathlib.Core.Logic.{_≢_, _⊎_}
 use mathlib.Core.List.{List}
 use lib.ListN.{length, getD}
-use Rattle.reach.specs.Lists.{Preds}
+use Rattle.reach.specs.Lists.{Filled, Preds}
 use Rattle.reach.specs.Closure.{Allowed, Queued, ClosedFrom}
+use Rattle.reach.specs.Work.{section, Beside}
 
 -- v is marked, and all else is as before
 pub record Seeded (before after : List ℕ) (v : ℕ) : Type 0 where
@@ -60,3 +61,41 @@ pub record Grown (n w : ℕ) (keys sources level choice : List ℕ) (bound : ℕ
 pub record Visited (n w : ℕ) (keys sources level choice : List ℕ) (bound : ℕ) (reached queue : List ℕ) (tail : ℕ) (reached′ queue′ : List ℕ) (r : ℕ) : Type 0 where
   pub grown : Grown n w keys sources level choice bound reached queue tail reached′ queue′ r
   pub all : (v : ℕ) → Allowed keys sources level choice bound v w → getD reached′ v 0 ≡ 1
+
+-- The same of the work space: section 0 is the levels, section 1 the marks, section 2 the queue.
+
+pub record SeedableIn (n v : ℕ) (work : List ℕ) (tail : ℕ) : Type 0 where
+  pub long : length work ≡ 4 * n
+  pub seedable : Seedable n v (section 1 n work) (section 2 n work) tail
+
+pub record PushedIn (n v : ℕ) (work : List ℕ) (tail : ℕ) (work′ : List ℕ) (r : ℕ) : Type 0 where
+  pub pushed : Pushed n v (section 1 n work) (section 2 n work) tail (section 1 n work′) (section 2 n work′) r
+  pub beside : Beside n work work′
+
+pub record ClosableIn (n : ℕ) (keys heads nexts sources choice work : List ℕ) (tail : ℕ) : Type 0 where
+  pub long : length work ≡ 4 * n
+  pub closable : Closable n keys heads nexts sources (section 0 n work) choice (section 1 n work) (section 2 n work) tail
+
+pub record ClosedIn (n : ℕ) (keys sources choice : List ℕ) (bound : ℕ) (work work′ : List ℕ) (r : ℕ) : Type 0 where
+  pub closed : Closed n keys sources (section 0 n work) choice bound (section 1 n work) (section 1 n work′) (section 2 n work′) r
+  pub beside : Beside n work work′
+
+pub record VisitableIn (n w : ℕ) (keys heads nexts sources choice work : List ℕ) (tail : ℕ) : Type 0 where
+  pub long : length work ≡ 4 * n
+  pub visitable : Visitable n w keys heads nexts sources (section 0 n work) choice (section 1 n work) (section 2 n work) tail
+
+pub record VisitedIn (n w : ℕ) (keys sources choice : List ℕ) (bound : ℕ) (work : List ℕ) (tail : ℕ) (work′ : List ℕ) (r : ℕ) : Type 0 where
+  pub visited : Visited n w keys sources (section 0 n work) choice bound (section 1 n work) (section 2 n work) tail (section 1 n work′) (section 2 n work′) r
+  pub beside : Beside n work work′
+
+-- the marks of a queue, to be taken back
+pub record ClearableIn (n : ℕ) (work : List ℕ) (tail : ℕ) : Type 0 where
+  pub long : length work ≡ 4 * n
+  pub small : n ≤ 2048
+  pub queued : Queued n (section 1 n work) (section 2 n work) tail
+
+-- no mark is left, and nothing else has changed
+pub record ClearedIn (n : ℕ) (work work′ : List ℕ) : Type 0 where
+  pub filled : Filled (section 1 n work′) 0
+  pub queue : section 2 n work′ ≡ section 2 n work
+  pub beside : Beside n work work′

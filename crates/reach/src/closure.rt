@@ -1,17 +1,14 @@
 // The closure backwards: all vertices from which allowed steps lead to a seed, in a queue.
-ghost use mathlib.Core.Path.{_≡_};
-ghost use lib.ListN.{length};
-ghost use Rattle.reach.specs.Lists.{Filled};
-ghost use Rattle.reach.specs.Closure.{Queued};
-ghost use Rattle.reach.specs.Queue.{Seedable, Pushed, Closable, Closed, Visitable, Visited};
+// The work space is four sections of n cells: levels, marks, queue, and one that is left alone.
+ghost use Rattle.reach.specs.Queue.{SeedableIn, PushedIn, ClosableIn, ClosedIn, VisitableIn, VisitedIn, ClearableIn, ClearedIn};
 
 // One more seed.
-pub fn seed(n: usize, v: usize, reached: &mut [u16], queue: &mut [u16], tail: usize) -> usize
-    requires { ⌜ Seedable n v (now reached) (now queue) tail ⌝ }
-    ensures { λ r. ⌜ Pushed n v (now (reached .entry)) (now (queue .entry)) tail (now (reached .exit)) (now (queue .exit)) r ⌝ }
+pub fn seed(n: usize, v: usize, work: &mut [u16], tail: usize) -> usize
+    requires { ⌜ SeedableIn n v (now work) tail ⌝ }
+    ensures { λ r. ⌜ PushedIn n v (now (work .entry)) tail (now (work .exit)) r ⌝ }
 {
-    reached[v] = 1;
-    queue[tail] = v as u16;
+    work[n + v] = 1;
+    work[2 * n + tail] = v as u16;
     tail + 1
 }
 
@@ -23,25 +20,23 @@ fn visit(
     heads: &[u16],
     nexts: &[u16],
     sources: &[u16],
-    level: &[u16],
     bound: u16,
     choice: &[u16],
-    reached: &mut [u16],
-    queue: &mut [u16],
+    work: &mut [u16],
     tail: usize,
 ) -> usize
-    requires { ⌜ Visitable n w (now keys) (now heads) (now nexts) (now sources) (now level) (now choice) (now reached) (now queue) tail ⌝ }
-    ensures { λ r. ⌜ Visited n w (now (keys .entry)) (now (sources .entry)) (now (level .entry)) (now (choice .entry)) bound (now (reached .entry)) (now (queue .entry)) tail (now (reached .exit)) (now (queue .exit)) r ⌝ }
+    requires { ⌜ VisitableIn n w (now keys) (now heads) (now nexts) (now sources) (now choice) (now work) tail ⌝ }
+    ensures { λ r. ⌜ VisitedIn n w (now (keys .entry)) (now (sources .entry)) (now (choice .entry)) bound (now (work .entry)) tail (now (work .exit)) r ⌝ }
 {
     let mut e = heads[w] as usize;
     let mut end = tail;
     while e < 65535 {
         let u = sources[e] as usize;
         e = nexts[e] as usize;
-        if reached[u] == 0 && level[u] <= bound {
+        if work[n + u] == 0 && work[u] <= bound {
             let fixed = choice[u] as usize;
             if fixed == 65535 || fixed == w {
-                end = seed(n, u, reached, queue, end);
+                end = seed(n, u, work, end);
             }
         }
     }
@@ -55,49 +50,35 @@ pub fn close(
     heads: &[u16],
     nexts: &[u16],
     sources: &[u16],
-    level: &[u16],
     bound: u16,
     choice: &[u16],
-    reached: &mut [u16],
-    queue: &mut [u16],
+    work: &mut [u16],
     tail: usize,
 ) -> usize
-    requires { ⌜ Closable n (now keys) (now heads) (now nexts) (now sources) (now level) (now choice) (now reached) (now queue) tail ⌝ }
-    ensures { λ r. ⌜ Closed n (now (keys .entry)) (now (sources .entry)) (now (level .entry)) (now (choice .entry)) bound (now (reached .entry)) (now (reached .exit)) (now (queue .exit)) r ⌝ }
+    requires { ⌜ ClosableIn n (now keys) (now heads) (now nexts) (now sources) (now choice) (now work) tail ⌝ }
+    ensures { λ r. ⌜ ClosedIn n (now (keys .entry)) (now (sources .entry)) (now (choice .entry)) bound (now (work .entry)) (now (work .exit)) r ⌝ }
 {
+    let queue = 2 * n;
     let mut end = tail;
     let mut h = 0;
     while h < end {
-        let w = queue[h] as usize;
-        end = visit(
-            n,
-            w,
-            keys,
-            heads,
-            nexts,
-            sources,
-            level,
-            bound,
-            choice,
-            reached,
-            queue,
-            end,
-        );
+        let w = work[queue + h] as usize;
+        end = visit(n, w, keys, heads, nexts, sources, bound, choice, work, end);
         h += 1;
     }
     end
 }
 
 // Takes all marks back.
-pub fn clear(n: usize, reached: &mut [u16], queue: &[u16], tail: usize)
-    requires { ⌜ Queued n (now reached) (now queue) tail ⌝ }
-    ensures long { λ _. ⌜ length (now (reached .exit)) ≡ length (now (reached .entry)) ⌝ }
-    ensures cleared { λ _. ⌜ Filled (now (reached .exit)) 0 ⌝ }
+pub fn clear(n: usize, work: &mut [u16], tail: usize)
+    requires { ⌜ ClearableIn n (now work) tail ⌝ }
+    ensures { λ _. ⌜ ClearedIn n (now (work .entry)) (now (work .exit)) ⌝ }
 {
+    let queue = 2 * n;
     let mut i = 0;
     while i < tail {
-        let v = queue[i] as usize;
-        reached[v] = 0;
+        let v = work[queue + i] as usize;
+        work[n + v] = 0;
         i += 1;
     }
 }

@@ -1,40 +1,52 @@
--- `reach::closure::clear` meets its contract. The invariant, `Clearing`: the marks that are left are in the queue from place i on.
+-- `reach::closure::clear` meets its contract. The invariant, `ClearingIn`: the marks that are left are in the queue from place i on.
 -- Assumes nothing.
-use Prim.Native.Nat.{_-_, _<_}
-use mathlib.Core.Path.{sym, _∙_}
-use lib.ListN.{getD}
+use Prim.Native.Nat.{_+_, _*_, _-_, _<_}
 use borrow.Author.Needs.{needs}
 use native.Mathlib.Omega.{arith}
-use Rattle.reach.proofs.Queues.{Clearing, clearing-none, clearing-more, clearing-all, tail-bounded}
+use lib.ListN.{getD}
+use Rattle.reach.proofs.Queues.{ClearingIn, clearing-in-none, clearing-in-vertex, clearing-in-more, cleared, tail-bounded}
 use Rattle.reach.proofs.closure.clear.Statement.{statement}
 use Rattle.reach.proofs.closure.clear.Tie as tie
 
 abbrev Inv-loop : tie.InvT-loop
-Inv-loop n reached₀ queue tail i₀ reached i = Clearing n queue tail reached i
+Inv-loop n work₀ tail queue i₀ work i = ClearingIn n work₀ tail work i
 
 abbrev μ-loop : tie.MeasureT-loop
-μ-loop n reached₀ queue tail i₀ reached i = tail - i
+μ-loop n work₀ tail queue i₀ work i = tail - i
 
-vertex : (c : tie.In-loop Inv-loop μ-loop) → getD (c .before .before .args .queue .now) (c .before .loop .i) 0 < c .before .before .args .n
-vertex c = c .before .before .pre .vertex _ (c .loop-test .taken)
+-- a turn's place is one of the queue's n, and a vertex stands there
+place : (c : tie.In-loop Inv-loop μ-loop) → c .before .loop .i < c .before .before .args .n
+place c = omega (arith, c .loop-test .taken, tail-bounded (c .before .before .pre .queued))
+
+vertex : (c : tie.In-loop Inv-loop μ-loop) → getD (c .before .loop .work) (2 * c .before .before .args .n + c .before .loop .i) 0 < c .before .before .args .n
+vertex c = clearing-in-vertex (c .before .before .pre) (c .before .loop .inv) (c .loop-test .taken)
+
+mul-queue : tie.Need-mul-queue Inv-loop μ-loop
+mul-queue c = search needs
 
 loop-holds : tie.Need-loop-holds Inv-loop μ-loop
-loop-holds c = clearing-none (c .pre)
+loop-holds c = clearing-in-none (c .pre)
+
+add-v : tie.Need-add-v Inv-loop μ-loop
+add-v c = omega (arith, place c, c .before .before .pre .small)
 
 mul-v : tie.Need-mul-v Inv-loop μ-loop
-mul-v c = omega (arith, tail-bounded (c .before .before .pre))
+mul-v c = omega (arith, place c, c .before .before .pre .small)
 
-shared-slice-read-v : tie.Need-shared-slice-read-v Inv-loop μ-loop
-shared-slice-read-v c = omega (arith, tail-bounded (c .before .before .before .pre))
+slice-read-v : tie.Need-slice-read-v Inv-loop μ-loop
+slice-read-v c = omega (arith, place (c .before), c .before .before .loop .inv .beside .long)
 
 cast-v : tie.Need-cast-v Inv-loop μ-loop
-cast-v c = omega (arith, c .shared-slice-known .given (c .before .before .loop .i))
+cast-v c = omega (arith, vertex (c .before), c .before .before .before .pre .small)
 
-mul-reached : tie.Need-mul-reached Inv-loop μ-loop
-mul-reached c = omega (arith, c .shared-slice-known .given (c .before .before .loop .i))
+add-work : tie.Need-add-work Inv-loop μ-loop
+add-work c = omega (arith, vertex (c .before), c .before .before .before .pre .small)
 
-slice-write-reached : tie.Need-slice-write-reached Inv-loop μ-loop
-slice-write-reached c = omega (arith, vertex (c .before))
+mul-work : tie.Need-mul-work Inv-loop μ-loop
+mul-work c = omega (arith, vertex (c .before), c .before .before .before .pre .small)
+
+slice-write-work : tie.Need-slice-write-work Inv-loop μ-loop
+slice-write-work c = omega (arith, vertex (c .before), c .before .before .loop .inv .beside .long)
 
 add-i : tie.Need-add-i Inv-loop μ-loop
 add-i c = search needs
@@ -43,13 +55,13 @@ loop-less : tie.Need-loop-less Inv-loop μ-loop
 loop-less c = search needs
 
 loop-again : tie.Need-loop-again Inv-loop μ-loop
-loop-again c = clearing-more (c .before .before .loop .inv) (vertex (c .before))
+loop-again c = clearing-in-more (c .before .before .before .pre) (c .before .before .loop .inv) (c .before .loop-test .taken)
 
 same-length : tie.Need-same-length Inv-loop μ-loop
 same-length c = search needs
 
 returns : tie.Need-returns Inv-loop μ-loop
-returns c = (c .before .loop .inv .long ∙ sym (c .before .before .pre .reached-long), clearing-all (c .before .loop .inv) (c .loop-test .left))
+returns c = cleared (c .before .before .pre) (c .before .loop .inv) (c .loop-test .left)
 
 pub clear-spec : {M : Type 1} → statement M
 clear-spec =
@@ -57,12 +69,15 @@ clear-spec =
     (tie.spec
     Inv-loop
     μ-loop
+    mul-queue
     loop-holds
+    add-v
     mul-v
-    shared-slice-read-v
+    slice-read-v
     cast-v
-    mul-reached
-    slice-write-reached
+    add-work
+    mul-work
+    slice-write-work
     add-i
     loop-less
     loop-again

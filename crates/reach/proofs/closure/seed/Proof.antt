@@ -2,47 +2,56 @@
 -- Assumes nothing.
 use borrow.Author.Needs.{needs}
 use native.Mathlib.Omega.{arith}
-use Rattle.reach.proofs.Queues.{room, pushed}
+use lib.ListN.{length-set}
+use Rattle.reach.proofs.Queues.{room, pushed-in}
 use Rattle.reach.proofs.closure.seed.Statement.{statement}
 use Rattle.reach.proofs.closure.seed.Tie as tie
 
-mul-reached : tie.Need-mul-reached
-mul-reached c = search needs
+add-work : tie.Need-add-work
+add-work c = search needs
 
-slice-write-reached : tie.Need-slice-write-reached
-slice-write-reached c = search needs
+mul-work : tie.Need-mul-work
+mul-work c = search needs
 
-cast-queue : tie.Need-cast-queue
-cast-queue c = search needs
+slice-write-work : tie.Need-slice-write-work
+slice-write-work c = search needs
 
-mul-queue : tie.Need-mul-queue
-mul-queue c = omega (arith, room (c .pre))
+cast-work : tie.Need-cast-work
+cast-work c = search needs
 
-slice-write-queue : tie.Need-slice-write-queue
-slice-write-queue c = omega (arith, room (c .pre))
+mul-work-2 : tie.Need-mul-work-2
+mul-work-2 c = search needs
+
+add-work-2 : tie.Need-add-work-2
+add-work-2 c = omega (arith, room (c .pre .seedable))
+
+mul-work-3 : tie.Need-mul-work-3
+mul-work-3 c = omega (arith, room (c .pre .seedable))
+
+slice-write-work-2 : tie.Need-slice-write-work-2
+slice-write-work-2 c = simp length-set (omega (arith, room (c .pre .seedable)))
 
 add-result : tie.Need-add-result
-add-result c = omega (arith, room (c .pre))
+add-result c = omega (arith, room (c .pre .seedable))
 
 same-length : tie.Need-same-length
 same-length c = search needs
 
-same-length-2 : tie.Need-same-length-2
-same-length-2 c = search needs
-
 returns : tie.Need-returns
-returns c = pushed _ _ _ _ _ (c .pre)
+returns c = pushed-in (c .pre)
 
 pub seed-spec : {M : Type 1} → statement M
 seed-spec =
     tie.close
     (tie.spec
-    mul-reached
-    slice-write-reached
-    cast-queue
-    mul-queue
-    slice-write-queue
+    add-work
+    mul-work
+    slice-write-work
+    cast-work
+    mul-work-2
+    add-work-2
+    mul-work-3
+    slice-write-work-2
     add-result
     same-length
-    same-length-2
     returns)
