@@ -1,0 +1,4 @@
+pub mod Flags
+pub mod Walks
+pub mod Ranking
+pub mod Picking
