@@ -1,24 +1,28 @@
 -- Row 14 at x by the closure: x lies on a cycle by the recorded moves with its own priority as the highest exactly if a recorded
 -- step leads from x to a vertex from which recorded steps among priorities of at most x's lead back to x.
-use Prim.Native.Nat.{ℕ, _<_, _≤_}
-use mathlib.Core.Path.{_≡_, refl, sym, ap, subst, _∙_}
+use Prim.Native.Nat.{ℕ, _<_}
+use mathlib.Core.Path.{_≡_, refl, subst}
 use mathlib.Core.Logic.{_≢_}
 use mathlib.Core.List.{List}
 use native.Mathlib.Omega.{arith}
 use native.Mathlib.Decide.{ℕ-discrete}
 use lib.ListN.{length, getD}
 use Rattle.player.specs.Player.{parityOf}
-use Rattle.game.specs.Game.{Edge, Sound}
+use Rattle.game.specs.Game.{Game, Edge, Sound}
 use Rattle.game.specs.Tables.{nextOf, gameOf}
 use Rattle.game.specs.Answer.{markOf, moveOf}
 use Rattle.winning.specs.Walk.{Walk, stay, step, map-walk, follow}
 use Rattle.winning.specs.Cycle.{Low}
-use Rattle.winning.specs.Answer.{noMove, Recorded, Fault14}
+use Rattle.winning.specs.Answer.{Recorded, Fault14}
 use Rattle.winning.proofs.Backed.{Backed}
-use Rattle.winning.proofs.Cycles.{round-of, cycle-of}
+use Rattle.winning.proofs.Cycles.{round-of, cycle-of, cycle-step}
 use Rattle.reach.specs.Lists.{EdgesOf}
 use Rattle.reach.specs.Closure.{Allowed, ClosedFrom}
 use Rattle.checker.specs.Tests.{Comes, Single}
+
+-- what lies on a cycle is a vertex
+pub fault14-vertex : (g : Game) (mark move : ℕ → ℕ) (x : ℕ) → Fault14 g mark move x → x < g .n
+fault14-vertex g mark move x f = cycle-step (Recorded g mark move) x (f .rest) (f .cycle) .1 .edge .from
 
 -- marks that are closed backwards hold all along a walk to a marked vertex
 back : (S : ℕ → ℕ → Type 0) (marks : List ℕ) → ((v w : ℕ) → S v w → getD marks w 0 ≡ 1 → getD marks v 0 ≡ 1) → {v u : ℕ} → Walk S v u → getD marks u 0 ≡ 1 → getD marks v 0 ≡ 1
@@ -33,7 +37,7 @@ module _ (owners priorities starts targets winners moves sources : List ℕ) (so
       record {
         edge = edges .number owners priorities refl v w (s .taken .edge);
         low = s .low;
-        fixed = λ h. elim (ℕ-discrete (getD owners v 0) (markOf winners v)) [ yes e ↦ s .taken .fixed e | no ne ↦ absurd (h (b .elsewhere v (s .taken .edge .from) ne)) ]
+        fixed = λ h. elim (ℕ-discrete (getD owners v 0) (markOf winners v)) [ yes e ↦ s .taken .fixed e | no ne ↦ absurd (h (b .elsewhere v (s .taken .edge .from) ne)) ];
       }
 
   recorded : (k v w : ℕ) → Allowed targets sources priorities moves k v w → Low (gameOf owners priorities starts targets) (Recorded (gameOf owners priorities starts targets) (markOf winners) (moveOf moves)) k v w
@@ -42,7 +46,7 @@ module _ (owners priorities starts targets winners moves sources : List ℕ) (so
       let e : Edge (gameOf owners priorities starts targets) v w = edges .edge owners priorities refl v w (a .edge) in
       record {
         taken = record { edge = e; fixed = λ o. a .fixed (λ z. omega (arith, sound .few, b .owned v (e .from) o .0 .to)) };
-        low = a .low
+        low = a .low;
       }
 
   module _ (x : ℕ) (lost : parityOf (getD priorities x 0) ≢ markOf winners x) (l : x < length owners) (before after : List ℕ) (one : Single (length owners) before x) (c : ClosedFrom (length owners) targets sources priorities moves (getD priorities x 0) before after) where
@@ -53,7 +57,7 @@ module _ (owners priorities starts targets winners moves sources : List ℕ) (so
     fault14 h =
         let i : h .to < length owners = sound .inside x (h .to) l (h .listed) in
         let s : Recorded (gameOf owners priorities starts targets) (markOf winners) (moveOf moves) x (h .to) =
-            record { edge = record { from = l; to = i; listed = h .listed }; fixed = λ o. h .fixed (λ z. omega (arith, sound .few, b .owned x l o .0 .to)) }
+        record { edge = record { from = l; to = i; listed = h .listed }; fixed = λ o. h .fixed (λ z. omega (arith, sound .few, b .owned x l o .0 .to)) }
         in
         let r = c .reason (h .to) i (h .marked) in
         let e : r .seed ≡ x = one .only (r .seed) (end-within i (r .walk)) (r .marked) in
@@ -68,5 +72,5 @@ module _ (owners priorities starts targets winners moves sources : List ℕ) (so
           to = r .0;
           listed = r .1 .edge .listed;
           fixed = λ h. elim (ℕ-discrete (getD owners x 0) (markOf winners x)) [ yes e ↦ r .1 .fixed e | no ne ↦ absurd (h (b .elsewhere x l ne)) ];
-          marked = back (Allowed targets sources priorities moves (getD priorities x 0)) after (c .closed) (map-walk (allowed (getD priorities x 0)) (r .2)) (c .kept x l (one .here))
+          marked = back (Allowed targets sources priorities moves (getD priorities x 0)) after (c .closed) (map-walk (allowed (getD priorities x 0)) (r .2)) (c .kept x l (one .here));
         }

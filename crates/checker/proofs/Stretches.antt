@@ -1,17 +1,16 @@
 -- From the tests of one vertex by its stretch to the rows 12 and 13 of the game.
 use Prim.Native.Nat.{ℕ, _<_}
 use mathlib.Core.Path.{_≡_, refl, sym, ap, subst, _∙_}
-use mathlib.Core.Logic.{_≢_}
 use mathlib.Core.List.{List}
 use mathlib.Core.Bool.{Bool}
 use native.Mathlib.Omega.{arith}
 use lib.ListN.{length, getD}
-use Rattle.game.specs.Game.{Game, Listed, Edge}
+use Rattle.game.specs.Game.{Game, Listed}
 use Rattle.winning.specs.Answer.{Fault12, Fault13, own, other}
 use Rattle.game.specs.Tables.{nextOf, gameOf}
 use Rattle.game.specs.Answer.{markRoom, markOf, moveOf}
 use Rattle.checker.specs.Checking.{Answered}
-use Rattle.checker.specs.Tests.{Says, OwnMove, WrongMove, Escape}
+use Rattle.checker.specs.Tests.{Says, WrongMove, Escape}
 use Rattle.checker.proofs.Says.{says-iff}
 use Rattle.checker.specs.Tests as tests
 
@@ -41,12 +40,13 @@ module _ (g : Game) (mark move : ℕ → ℕ) (inside : (v w : ℕ) → v < g .n
       }
 
 module _ (owners priorities starts targets winners moves : List ℕ) (a : Answered owners priorities starts targets winners moves) (v : ℕ) (l : v < length owners) where
-  -- the successors of v have marks
+  -- the successors of v are vertices, and have marks
+  pub stretch-inside : (r : List ℕ) → r ≡ nextOf starts targets v → (i : ℕ) → i < length r → getD r i 0 < length owners
+  stretch-inside r e i h =
+      a .well-formed .sound .inside v (getD r i 0) l (subst (Listed (getD r i 0)) e (record { at = i; within = h; is = refl }))
+
   pub stretch-marks : (r : List ℕ) → r ≡ nextOf starts targets v → (i : ℕ) → i < length r → getD r i 0 < markRoom winners
-  stretch-marks r e i h =
-      let w : Listed (getD r i 0) (nextOf starts targets v) = subst (Listed (getD r i 0)) e (record { at = i; within = h; is = refl }) in
-      let k : getD r i 0 < length owners = a .well-formed .sound .inside v (getD r i 0) l w in
-      omega (arith, a .winners-long)
+  stretch-marks r e i h = omega (arith, stretch-inside r e i h, a .winners-long)
 
   -- what the tests by the stretch say of the rows
   pub says12 : {r : List ℕ} {p m : ℕ} {b : Bool} → r ≡ nextOf starts targets v → p ≡ markOf winners v → m ≡ moveOf moves v → Says (WrongMove (markOf winners) r (getD owners v 0) p m) b → Says (Fault12 (gameOf owners priorities starts targets) (markOf winners) (moveOf moves) v) b

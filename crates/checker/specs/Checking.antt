@@ -24,10 +24,11 @@ module _ (owners priorities starts targets winners moves : List ℕ) where
   judgeRows = answerRows (gameOf owners priorities starts targets) (markOf winners) (moveOf moves)
 
   -- "Solver and checker test 1 to 7, then 8, then (checker) 11 to 14."
+  abbrev pub afterTables : List ℕ → List Row
+  afterTables work = record { number = 8; applies = Fault8 (length owners) (length winners) (length moves) (length work) } ∷ judgeRows
+
   abbrev pub checkRows : List ℕ → List Row
-  checkRows work =
-      tableRows owners priorities starts targets ++
-      record { number = 8; applies = Fault8 (length owners) (length winners) (length moves) (length work) } ∷ judgeRows
+  checkRows work = tableRows owners priorities starts targets ++ afterTables work
 
   -- an answer to a well-formed game: a mark and a move for each vertex
   pub record Answered : Type 0 where

@@ -11,7 +11,7 @@ use Rattle.game.specs.Tables.{gameOf}
 use Rattle.game.specs.Answer.{markOf, moveOf}
 use Rattle.winning.specs.Answer.{noMove, Fault11, Fault12, Fault13, Fault14}
 use Rattle.reach.specs.Work.{section}
-use Rattle.reach.specs.Lists.{Preds, EdgesOf}
+use Rattle.reach.specs.Lists.{Filled, Preds, EdgesOf}
 use Rattle.reach.specs.Closure.{Queued}
 use Rattle.checker.specs.Checking.{Answered}
 use Rattle.checker.specs.Tests.{Says}
@@ -46,6 +46,7 @@ module _ (owners priorities starts targets winners moves : List ℕ) where
   pub record LostAsked (work : List ℕ) : Type 0 where
     pub passed : PassedTo14
     pub work-long : length work ≡ 4 * length owners
+    pub zero : Filled work 0
 
 -- what the test of x asks
 pub record Rounding (x : ℕ) (owners priorities starts targets winners moves heads nexts sources work : List ℕ) : Type 0 where

@@ -1,9 +1,13 @@
 // The test 14: a cycle by the recorded moves with a highest priority whose parity is not its vertices' mark.
-use game::answer::{mark, recorded};
-use game::vertex::{successors, wide};
+use game::answer::mark;
+use game::answer::recorded;
+use game::vertex::successors;
+use game::vertex::wide;
 use player::Player;
 use reach::cells::fill;
-use reach::closure::{clear, close, seed};
+use reach::closure::clear;
+use reach::closure::close;
+use reach::closure::seed;
 use reach::lists::predecessors;
 use refusal::Found;
 ghost use mathlib.Core.Path.{_≡_};
@@ -97,7 +101,19 @@ fn lowest_lost(
     let n = owners.len();
     let mut x = 0;
     while x < n {
-        if is_lost(x, owners, priorities, starts, targets, winners, moves, heads, nexts, sources, work) {
+        if is_lost(
+            x,
+            owners,
+            priorities,
+            starts,
+            targets,
+            winners,
+            moves,
+            heads,
+            nexts,
+            sources,
+            work,
+        ) {
             return Found::At(x);
         }
         x += 1;
@@ -105,7 +121,7 @@ fn lowest_lost(
     Found::Nowhere
 }
 
-// 14, given that none of 11 to 13 applies.
+// 14, given that none of 11 to 13 applies and that the work space is all zero.
 pub fn lost_cycle(
     owners: &[u8],
     priorities: &[u8],
@@ -124,9 +140,19 @@ pub fn lost_cycle(
     let mut sources = [0u16; 16384];
     let n = owners.len();
     predecessors(n, starts, targets, &mut heads, &mut nexts, &mut sources);
-    fill(work, 0);
     set_levels(priorities, work);
-    let found = lowest_lost(owners, priorities, starts, targets, winners, moves, &heads, &nexts, &sources, work);
+    let found = lowest_lost(
+        owners,
+        priorities,
+        starts,
+        targets,
+        winners,
+        moves,
+        &heads,
+        &nexts,
+        &sources,
+        work,
+    );
     fill(work, 0);
     found
 }

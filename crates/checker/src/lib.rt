@@ -1,10 +1,15 @@
 // The checker of answers: whether winners and moves, from anyone, are right for a game.
-use answers::{open_escape, strange_mark, wrong_move};
+use answers::open_escape;
+use answers::strange_mark;
+use answers::wrong_move;
 use cycles::lost_cycle;
 use game::buffers::lengths;
-use game::tables::{Tables, test_tables};
+use game::tables::Tables;
+use game::tables::test_tables;
 use reach::cells::fill;
-use refusal::{Found, Kind, Refusal};
+use refusal::Found;
+use refusal::Kind;
+use refusal::Refusal;
 ghost use mathlib.Core.Path.{_≡_};
 ghost use Rattle.checker.specs.Checking.{Judgeable, Judged, Checks, verdictSaid};
 

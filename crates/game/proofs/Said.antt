@@ -3,7 +3,7 @@ use mathlib.Core.Path.{_≡_, refl, sym, subst, ap}
 use mathlib.Core.List.{List}
 use Rattle.refusal.specs.declared.Refusal.{Refusal}
 use Rattle.refusal.specs.Number.{numberOf}
-use Rattle.refusal.specs.Row.{Row, First, Gives, first-not-none, first-unique}
+use Rattle.refusal.specs.Row.{Row, None, First, Gives, first-not-none, first-unique}
 use Rattle.refusal.specs.Found.{refusal-unique}
 use Rattle.game.specs.Answer.{tablesSaid}
 use Rattle.game.specs.declared.tables.Tables.{Tables}
@@ -11,6 +11,9 @@ use Rattle.game.specs.declared.tables.Tables.the-variants.{Passed, Refus
 
 pub refuses : (rows : List Row) {t : Tables} {r : Refusal} → t ≡ Refused r → First rows (numberOf (r .kind)) (r .place) → Gives rows (tablesSaid t)
 refuses rows e f = subst (λ (t : Tables). Gives rows (tablesSaid t)) (sym e) f
+
+pub tables-passed : (rows : List Row) {t : Tables} → t ≡ Passed → Gives rows (tablesSaid t) → None rows
+tables-passed rows e g = subst (λ (t : Tables). Gives rows (tablesSaid t)) e g
 
 -- no second result satisfies the promise
 pub tables-unique : (rows : List Row) (a b : Tables) → Gives rows (tablesSaid a) → Gives rows (tablesSaid b) → a ≡ b

@@ -1,5 +1,6 @@
 -- A store into winners or moves changes one vertex's line.
 use Prim.Native.Nat.{ℕ, _<_}
+use mathlib.Core.Path.{_≡_, refl}
 use mathlib.Core.List.{List}
 use lib.ListN.{length, set, length-set}
 use lib.Seq.{getD-set-same, getD-set-other}
@@ -22,3 +23,8 @@ move-set l v m h =
       here = getD-set-same l v m 0 h;
       other = λ u ne. getD-set-other l v u m 0 ne;
     }
+
+-- a list of winners has room for as many vertices as it is long
+pub room-is : (l : List ℕ) → markRoom l ≡ length l
+unfolding markRoom
+room-is l = refl

@@ -87,3 +87,11 @@ module _ (owners priorities starts targets : List ℕ) where
   -- accepted exactly if well formed
   pub accepted-iff-well-formed : ((v : ℕ) → getD priorities v 0 < 256) → None (tableRows owners priorities starts targets) ↔ WellFormed owners priorities starts targets
   accepted-iff-well-formed bytes = (well-formed bytes, none-applies)
+
+-- every target of a well-formed game is a vertex
+pub targets-inside : (owners priorities starts targets : List ℕ) → WellFormed owners priorities starts targets → (e : ℕ) → e < length targets → getD targets e 0 < length owners
+targets-inside owners priorities starts targets w e l =
+    elim (decLt (getD targets e 0) (length owners)) [
+      | yes k ↦ k
+      | no k ↦ absurd (none-applies owners priorities starts targets w .1 .1 .1 .1 .1 .0 e (record { place = l; outside = omega arith }))
+    ]

@@ -7,3 +7,4 @@ pub mod Builds
 pub mod Chains
 pub mod Visits
 pub mod Closing
+pub mod Tables

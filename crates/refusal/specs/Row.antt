@@ -1,6 +1,6 @@
 -- "The first that applies is given, and none is given otherwise": said once, over a list of rows, for every entry point.
 use Prim.Native.Nat.{ℕ, _<_}
-use mathlib.Core.Path.{_≡_, sym, ap₂, _∙_}
+use mathlib.Core.Path.{_≡_, sym, subst, ap₂, _∙_}
 use mathlib.Core.Logic.{_⊎_, inl, inr}
 use mathlib.Core.List.{List, [], _∷_, _++_}
 use native.Mathlib.Decide.{decLt}
@@ -86,3 +86,14 @@ none-left (row ∷ rows) more n = (n .0, none-left rows more (n .1))
 pub none-right : (rows more : List Row) → None (rows ++ more) → None more
 none-right [] more n = n
 none-right (row ∷ rows) more n = none-right rows more (n .1)
+
+-- what holds of every row's number holds of the number that is given
+
+abbrev pub Numbers : (ℕ → Type 0) → List Row → Type 0
+Numbers P [] = Unit {0}
+Numbers P (row ∷ rows) = P (row .number) × Numbers P rows
+
+pub first-number : (P : ℕ → Type 0) (rows : List Row) (k x : ℕ) → Numbers P rows → First rows k x → P k
+first-number P [] k x n f = absurd f
+first-number P (row ∷ rows) k x n (inl here) = subst P (sym (here .0)) (n .0)
+first-number P (row ∷ rows) k x n (inr later) = first-number P rows k x (n .1) (later .1)

@@ -1,3 +1,4 @@
+-- A scan of the stretch; the invariant is that every successor passed has the mark.
 use borrow.Author.Needs.{needs}
 use Rattle.checker.proofs.Says.{says-yes, says-no}
 use borrow.Author.Count.{below-none, below-more}
@@ -9,10 +10,6 @@ use Rattle.game.specs.Answer.{markOf}
 use mathlib.Core.Path.{sym, ap, _∙_}
 use Rattle.checker.proofs.answers.is_escape.Statement.{statement}
 use Rattle.checker.proofs.answers.is_escape.Tie as tie
-use Rattle.checker.proofs.answers.is_escape.Reads as reads
-use Rattle.checker.proofs.answers.is_escape.Lts as lts
-use Rattle.game.proofs.answer.mark.Reads as mark-reads
-use Rattle.game.proofs.vertex.wide.Reads as wide-reads
 
 abbrev Inv-loop : tie.InvT-loop
 Inv-loop owner stretch winners p i₀ i = (i ≤ length stretch) × ((k : ℕ) → k < i → markOf winners (getD stretch k 0) ≡ p)
@@ -20,47 +17,36 @@ Inv-loop owner stretch winners p i₀ i = (i ≤ length stretch) × ((k : ℕ) �
 abbrev μ-loop : tie.MeasureT-loop
 μ-loop owner stretch winners p i₀ i = length stretch - i
 
--- src/answers.rt:58:9
 returns : tie.Need-returns Inv-loop μ-loop
 returns c = says-no (λ h. h .loser (c .if1 .taken))
 
--- src/answers.rt:61:5
 loop-holds : tie.Need-loop-holds Inv-loop μ-loop
 loop-holds c = (search needs, below-none _)
 
--- src/answers.rt:62:31
 mul-wide : tie.Need-mul-wide Inv-loop μ-loop
 mul-wide c = search needs
 
--- src/answers.rt:62:31
 shared-slice-read-wide : tie.Need-shared-slice-read-wide Inv-loop μ-loop
 shared-slice-read-wide c = search needs
 
--- src/answers.rt:62:26
 wide-requires : tie.Need-wide-requires Inv-loop μ-loop
 wide-requires c κs = search needs
 
--- src/answers.rt:62:12
 mark-requires : tie.Need-mark-requires Inv-loop μ-loop
 mark-requires c κs = rw (c .wide .ensures) (c .before .before .before .before .before .before .before .pre _ (search needs))
 
--- src/answers.rt:63:13
 returns-2 : tie.Need-returns-2 Inv-loop μ-loop
 returns-2 c = says-yes (record { loser = c .before .before .before .before .before .before .if1 .left; at = c .before .before .before .before .before .loop .i; within = search needs; differs = λ e. c .if2 .taken (c .before .mark .ensures ∙ ap (markOf _) (c .before .before .wide .ensures) ∙ e) })
 
--- src/answers.rt:65:9
 add-i : tie.Need-add-i Inv-loop μ-loop
 add-i c = search needs
 
--- src/answers.rt:61:5
 loop-less : tie.Need-loop-less Inv-loop μ-loop
 loop-less c = search needs
 
--- src/answers.rt:61:5
 loop-again : tie.Need-loop-again Inv-loop μ-loop
 loop-again c = (search needs, below-more _ _ (c .before .before .before .before .before .loop .inv .1) (sym (c .before .mark .ensures ∙ ap (markOf _) (c .before .before .wide .ensures)) ∙ c .if2 .left))
 
--- src/answers.rt:53:1
 returns-3 : tie.Need-returns-3 Inv-loop μ-loop
 returns-3 c = says-no (λ h. h .differs (c .before .loop .inv .1 (h .at) (omega (arith, h .within))))
 

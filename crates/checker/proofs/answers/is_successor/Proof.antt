@@ -1,3 +1,4 @@
+-- A scan of the stretch; the invariant is that no successor passed is w.
 use borrow.Author.Needs.{needs}
 use Rattle.checker.proofs.Says.{says-yes, says-no}
 use Rattle.refusal.specs.Found.{Scanned, scan-none, scan-more}
@@ -7,8 +8,6 @@ use Prim.Native.Nat.{ℕ, _≤_, _-_}
 use native.Mathlib.Omega.{arith}
 use Rattle.checker.proofs.answers.is_successor.Statement.{statement}
 use Rattle.checker.proofs.answers.is_successor.Tie as tie
-use Rattle.checker.proofs.answers.is_successor.Reads as reads
-use Rattle.checker.proofs.answers.is_successor.Lts as lts
 
 abbrev Inv-loop : tie.InvT-loop
 Inv-loop stretch w i₀ i = (i ≤ length stretch) × Scanned (λ (k : ℕ). getD stretch k 0 ≡ w) i
@@ -16,35 +15,27 @@ Inv-loop stretch w i₀ i = (i ≤ length stretch) × Scanned (λ (k : ℕ). get
 abbrev μ-loop : tie.MeasureT-loop
 μ-loop stretch w i₀ i = length stretch - i
 
--- src/answers.rt:21:5
 loop-holds : tie.Need-loop-holds Inv-loop μ-loop
 loop-holds c = (search needs, scan-none)
 
--- src/answers.rt:22:12
 mul-if1 : tie.Need-mul-if1 Inv-loop μ-loop
 mul-if1 c = search needs
 
--- src/answers.rt:22:12
 shared-slice-read-if1 : tie.Need-shared-slice-read-if1 Inv-loop μ-loop
 shared-slice-read-if1 c = search needs
 
--- src/answers.rt:23:13
 returns : tie.Need-returns Inv-loop μ-loop
 returns c = says-yes (record { at = c .before .before .before .loop .i; within = search needs; is = c .if1 .taken })
 
--- src/answers.rt:25:9
 add-i : tie.Need-add-i Inv-loop μ-loop
 add-i c = search needs
 
--- src/answers.rt:21:5
 loop-less : tie.Need-loop-less Inv-loop μ-loop
 loop-less c = search needs
 
--- src/answers.rt:21:5
 loop-again : tie.Need-loop-again Inv-loop μ-loop
 loop-again c = (search needs, scan-more (c .before .before .before .loop .inv .1) (c .if1 .left))
 
--- src/answers.rt:17:1
 returns-2 : tie.Need-returns-2 Inv-loop μ-loop
 returns-2 c = says-no (λ h. c .before .loop .inv .1 .clear (h .at) (omega (arith, h .within)) (h .is))
 

@@ -1,24 +1,17 @@
+-- By the owner: his move, or none.
 use borrow.Author.Needs.{needs}
 use mathlib.Core.Path.{_≡_}
 use Rattle.checker.proofs.Says.{says-not, says-eqb}
 use Rattle.checker.specs.Tests.{own, other}
-use Rattle.game.specs.Answer.{markOf}
-use mathlib.Core.Path.{sym, ap, _∙_}
 use Rattle.checker.proofs.answers.is_wrong_move.Statement.{statement}
 use Rattle.checker.proofs.answers.is_wrong_move.Tie as tie
-use Rattle.checker.proofs.answers.is_wrong_move.Reads as reads
-use Rattle.checker.proofs.answers.is_wrong_move.Lts as lts
-use Rattle.checker.proofs.answers.is_own_move.Reads as is-own-move-reads
 
--- src/answers.rt:47:17
 is-own-move-requires : tie.Need-is-own-move-requires
 is-own-move-requires c κs = search needs
 
--- src/answers.rt:47:9
 returns : tie.Need-returns
 returns c = says-not (λ o w. elim w [ own e h ↦ h o | other ne h ↦ ne (c .before .if1 .taken) ]) (λ h. own (c .before .if1 .taken) h) (c .is-own-move .ensures)
 
--- src/answers.rt:42:1
 returns-2 : tie.Need-returns-2
 returns-2 c =
     says-not {P = c .before .before .before .args .m ≡ 65535} (λ e w. elim w [ own o h ↦ c .if1 .left o | other ne h ↦ h e ]) (λ h. other (c .if1 .left) h)

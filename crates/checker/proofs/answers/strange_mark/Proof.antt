@@ -1,17 +1,15 @@
+-- Row 11: a scan; the invariant is that no mark passed is strange.
 use borrow.Author.Needs.{needs}
 use Rattle.winning.specs.Answer.{Fault11}
 use Rattle.game.specs.Tables.{gameOf}
 use Rattle.game.specs.Answer.{markOf, moveOf}
 use Rattle.refusal.specs.Found.{Scanned, scan-none, scan-more, scan-found, scan-all}
-use lib.ListN.{length, getD}
-use mathlib.Core.Path.{_≡_, refl, sym, ap, subst, _∙_}
-use Prim.Native.Nat.{ℕ, _≤_, _<_, _-_}
+use lib.ListN.{length}
+use mathlib.Core.Path.{_≡_, refl}
+use Prim.Native.Nat.{_≤_, _-_}
 use native.Mathlib.Omega.{arith}
 use Rattle.checker.proofs.answers.strange_mark.Statement.{statement}
 use Rattle.checker.proofs.answers.strange_mark.Tie as tie
-use Rattle.checker.proofs.answers.strange_mark.Reads as reads
-use Rattle.checker.proofs.answers.strange_mark.Lts as lts
-use Rattle.game.proofs.answer.mark.Reads as mark-reads
 
 abbrev Inv-loop : tie.InvT-loop
 Inv-loop owners priorities starts targets winners moves n v₀ v = (v ≤ length owners) × (n ≡ length owners) × Scanned (Fault11 (gameOf owners priorities starts targets) (markOf winners) (moveOf moves)) v
@@ -19,31 +17,24 @@ Inv-loop owners priorities starts targets winners moves n v₀ v = (v ≤ length
 abbrev μ-loop : tie.MeasureT-loop
 μ-loop owners priorities starts targets winners moves n v₀ v = length owners - v
 
--- src/answers.rt:70:5
 loop-holds : tie.Need-loop-holds Inv-loop μ-loop
 loop-holds c = (search needs, refl, scan-none)
 
--- src/answers.rt:71:12
 mark-requires : tie.Need-mark-requires Inv-loop μ-loop
 mark-requires c κs = omega (arith, c .before .before .before .before .before .before .before .before .pre .winners-long)
 
--- src/answers.rt:72:13
 returns : tie.Need-returns Inv-loop μ-loop
 returns c = scan-found (c .before .before .before .loop .inv .2) (record { vertex = search needs; strange = λ l. omega (arith, c .before .mark .ensures) })
 
--- src/answers.rt:74:9
 add-v : tie.Need-add-v Inv-loop μ-loop
 add-v c = search needs
 
--- src/answers.rt:70:5
 loop-less : tie.Need-loop-less Inv-loop μ-loop
 loop-less c = search needs
 
--- src/answers.rt:70:5
 loop-again : tie.Need-loop-again Inv-loop μ-loop
 loop-again c = (search needs, refl, scan-more (c .before .before .before .loop .inv .2) (λ f. f .strange (omega (arith, c .before .mark .ensures))))
 
--- src/answers.rt:57:1
 returns-2 : tie.Need-returns-2 Inv-loop μ-loop
 returns-2 c = scan-all (c .before .loop .inv .2) (λ x f. omega (arith, f .vertex))
 

@@ -1,3 +1,4 @@
+-- Row 12: a scan; at each vertex the test by its stretch is the row (Stretches.says12).
 use borrow.Author.Needs.{needs}
 use Rattle.checker.proofs.Stretches.{stretch-marks, says12}
 use Rattle.winning.specs.Answer.{Fault12, own, other}
@@ -11,12 +12,6 @@ use Prim.Native.Nat.{_≤_, _-_}
 use native.Mathlib.Omega.{arith}
 use Rattle.checker.proofs.answers.wrong_move.Statement.{statement}
 use Rattle.checker.proofs.answers.wrong_move.Tie as tie
-use Rattle.checker.proofs.answers.wrong_move.Reads as reads
-use Rattle.checker.proofs.answers.wrong_move.Lts as lts
-use Rattle.checker.proofs.answers.is_wrong_move.Reads as is-wrong-move-reads
-use Rattle.game.proofs.answer.mark.Reads as mark-reads
-use Rattle.game.proofs.answer.recorded.Reads as recorded-reads
-use Rattle.game.proofs.vertex.successors.Reads as successors-reads
 
 abbrev Inv-loop : tie.InvT-loop
 Inv-loop owners priorities starts targets winners moves n v₀ v = (v ≤ length owners) × (n ≡ length owners) × Scanned (Fault12 (gameOf owners priorities starts targets) (markOf winners) (moveOf moves)) v
@@ -24,53 +19,42 @@ Inv-loop owners priorities starts targets winners moves n v₀ v = (v ≤ length
 abbrev μ-loop : tie.MeasureT-loop
 μ-loop owners priorities starts targets winners moves n v₀ v = length owners - v
 
--- src/answers.rt:107:5
 loop-holds : tie.Need-loop-holds Inv-loop μ-loop
 loop-holds c = (search needs, refl, scan-none)
 
--- src/answers.rt:108:13
 mark-requires : tie.Need-mark-requires Inv-loop μ-loop
 mark-requires c κs = omega (arith, c .before .before .before .before .before .before .before .before .pre .winners-long)
 
--- src/answers.rt:109:13
 recorded-requires : tie.Need-recorded-requires Inv-loop μ-loop
 recorded-requires c κs = omega (arith, c .before .before .before .before .before .before .before .before .before .pre .moves-long)
 
--- src/answers.rt:110:26
 shared-slice-read-is-wrong-move : tie.Need-shared-slice-read-is-wrong-move Inv-loop μ-loop
 shared-slice-read-is-wrong-move c = search needs
 
--- src/answers.rt:110:37
 successors-requires : tie.Need-successors-requires Inv-loop μ-loop
 successors-requires c κs = stretch-of _ _ _ (c .before .before .before .before .before .before .before .before .before .before .before .pre .well-formed .placed) _ (search needs)
 
--- src/answers.rt:110:12
 is-wrong-move-requires : tie.Need-is-wrong-move-requires Inv-loop μ-loop
 is-wrong-move-requires c κs = stretch-marks _ _ _ _ _ _ (c .before .before .before .before .before .before .before .before .before .before .before .before .pre) _ (search needs) _ (c .successors .ensures)
 
--- src/answers.rt:111:13
 returns : tie.Need-returns Inv-loop μ-loop
 returns c =
     let l = c .before .before .before .before .before .before .before in
     let s = says12 _ _ _ _ _ _ (l .before .before .before .before .before .before .before .pre) _ (search needs) (c .before .before .successors .ensures) (c .before .before .before .before .before .mark .ensures) (c .before .before .before .before .recorded .ensures) (c .before .is-wrong-move .ensures) in
     scan-found (l .loop .inv .2) (s .holds (c .if1 .taken))
 
--- src/answers.rt:113:9
 add-v : tie.Need-add-v Inv-loop μ-loop
 add-v c = search needs
 
--- src/answers.rt:107:5
 loop-less : tie.Need-loop-less Inv-loop μ-loop
 loop-less c = search needs
 
--- src/answers.rt:107:5
 loop-again : tie.Need-loop-again Inv-loop μ-loop
 loop-again c =
     let l = c .before .before .before .before .before .before .before in
     let s = says12 _ _ _ _ _ _ (l .before .before .before .before .before .before .before .pre) _ (search needs) (c .before .before .successors .ensures) (c .before .before .before .before .before .mark .ensures) (c .before .before .before .before .recorded .ensures) (c .before .is-wrong-move .ensures) in
     (search needs, refl, scan-more (l .loop .inv .2) (s .fails (c .if1 .left)))
 
--- src/answers.rt:94:1
 returns-2 : tie.Need-returns-2 Inv-loop μ-loop
 returns-2 c = scan-all (c .before .loop .inv .2) (λ x f. elim f [ own h e g ↦ omega arith | other h e g ↦ omega arith ])
 
