@@ -1,6 +1,8 @@
 // The solver: winners and moves of a game, by fixpoint iteration with justifications, one vertex at a time.
 use refusal::Refusal;
 
+pub mod start;
+
 // Solved, or the first of 1 to 8 that applies.
 pub enum Solved {
     Done,

@@ -1,0 +1,21 @@
+-- The start with nothing kept.
+use Prim.Native.Nat.{ℕ, _*_, _<_}
+use mathlib.Core.Path.{_≡_}
+use mathlib.Core.List.{List}
+use lib.ListN.{length, getD}
+use Rattle.player.specs.Player.{parityOf}
+use Rattle.game.specs.Answer.{markRoom, markOf}
+use Rattle.reach.specs.Work.{section}
+
+-- lists of the right lengths
+pub record Openable (priorities winners work : List ℕ) : Type 0 where
+  pub winners-long : markRoom winners ≡ length priorities
+  pub work-long : length work ≡ 4 * length priorities
+
+-- every vertex is open, with the mark of its own priority's parity, and the closure's marks are as before
+pub record AllOpen (priorities winners work winners′ work′ : List ℕ) : Type 0 where
+  pub room : markRoom winners′ ≡ markRoom winners
+  pub long : length work′ ≡ length work
+  pub mark : (v : ℕ) → v < length priorities → markOf winners′ v ≡ parityOf (getD priorities v 0)
+  pub flag : (v : ℕ) → v < length priorities → getD (section 0 (length priorities) work′) v 0 ≡ 1
+  pub marks : section 1 (length priorities) work′ ≡ section 1 (length priorities) work

@@ -1,0 +1,17 @@
+// The start with nothing kept: every vertex is open, with the mark of its own priority's parity.
+use game::answer::set_mark;
+use player::Player;
+ghost use Rattle.solver.specs.Starting.{Openable, AllOpen};
+
+pub fn open_all(priorities: &[u8], winners: &mut [u8], work: &mut [u16])
+    requires { ⌜ Openable (now priorities) (now winners) (now work) ⌝ }
+    ensures { λ _. ⌜ AllOpen (now (priorities .entry)) (now (winners .entry)) (now (work .entry)) (now (winners .exit)) (now (work .exit)) ⌝ }
+{
+    let n = priorities.len();
+    let mut v = 0;
+    while v < n {
+        set_mark(winners, v, Player::of_priority(priorities[v]).bit);
+        work[v] = 1;
+        v += 1;
+    }
+}
