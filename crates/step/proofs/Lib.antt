@@ -1,0 +1,7 @@
+pub mod Tests
+pub mod Flags
+pub mod Reopens
+pub mod Turns
+pub mod Supports
+pub mod Carry
+pub mod Steps

@@ -1,0 +1,111 @@
+-- Reopening the queue's vertices one by one.
+use Prim.Native.Nat.{ℕ, _+_, _*_, _<_, _≤_}
+use mathlib.Core.Path.{_≡_, refl, sym, ap, subst, _∙_}
+use mathlib.Core.Logic.{_≢_}
+use mathlib.Core.List.{List}
+use native.Mathlib.Omega.{arith}
+use native.Mathlib.Decide.{ℕ-discrete}
+use native.Mathlib.Nat.{not-suc-le-zero}
+use lib.ListN.{length, getD, set}
+use Rattle.player.specs.Player.{parityOf}
+use Rattle.game.specs.Answer.{markRoom, markOf, MarkSet}
+use Rattle.reach.specs.Work.{section}
+use Rattle.reach.proofs.Sections.{section-read}
+use Rattle.reach.proofs.Queues.{tail-bounded}
+use Rattle.step.specs.Parts.{FlagSet, Opened, Reopenable, Reopened}
+use Rattle.step.proofs.Flags.{flag-set}
+
+-- the first i of the queue are open again, what is not marked is as before, and low is at most `priority`
+pub record Reopening (n : ℕ) (priorities winners₀ work₀ : List ℕ) (priority : ℕ) (winners work : List ℕ) (low i : ℕ) : Type 0 where
+  pub most : low ≤ priority
+  pub room : markRoom winners ≡ markRoom winners₀
+  pub long : length work ≡ length work₀
+  pub passed : (j : ℕ) → j < i → Opened priorities winners (section 0 n work) (getD (section 2 n work₀) j 0)
+  pub below : (j : ℕ) → j < i → low ≤ getD priorities (getD (section 2 n work₀) j 0) 0
+  pub flag : (u : ℕ) → u < n → getD (section 1 n work₀) u 0 ≢ 1 → getD (section 0 n work) u 0 ≡ getD (section 0 n work₀) u 0
+  pub mark : (u : ℕ) → u < n → getD (section 1 n work₀) u 0 ≢ 1 → markOf winners u ≡ markOf winners₀ u
+  pub marks : section 1 n work ≡ section 1 n work₀
+  pub queue : section 2 n work ≡ section 2 n work₀
+  pub links : section 3 n work ≡ section 3 n work₀
+
+module _ {n : ℕ} {priorities winners₀ work₀ : List ℕ} {tail priority : ℕ} (p : Reopenable n priorities winners₀ work₀ tail) where
+  pub reopening-none : Reopening n priorities winners₀ work₀ priority winners₀ work₀ priority 0
+  reopening-none =
+      record {
+        most = omega arith;
+        room = refl;
+        long = refl;
+        passed = λ j l. absurd (not-suc-le-zero l);
+        below = λ j l. absurd (not-suc-le-zero l);
+        flag = λ u l ne. refl;
+        mark = λ u l ne. refl;
+        marks = refl;
+        queue = refl;
+        links = refl;
+      }
+
+  module _ {winners work : List ℕ} {low i : ℕ} (r : Reopening n priorities winners₀ work₀ priority winners work low i) where
+    long : length work ≡ 4 * n
+    long = r .long ∙ p .work-long
+
+    -- the cell that is read is the queue's place i, and a vertex stands there
+    is : i < tail → getD work (2 * n + i) 0 ≡ getD (section 2 n work₀) i 0
+    is l = section-read n work long 2 i refl (omega (arith, tail-bounded (p .queued))) ∙ ap (λ (s : List ℕ). getD s i 0) (r .queue)
+
+    pub reopening-vertex : i < tail → getD work (2 * n + i) 0 < n
+    reopening-vertex l = subst (λ (v : ℕ). v < n) (sym (is l)) (p .queued .vertex i l)
+
+    marked : i < tail → getD (section 1 n work₀) (getD work (2 * n + i) 0) 0 ≡ 1
+    marked l = ap (λ (v : ℕ). getD (section 1 n work₀) v 0) (is l) ∙ p .queued .marked i l
+
+    pub reopening-more : {winners′ : List ℕ} {q low′ : ℕ} (u : ℕ) → i < tail → u ≡ getD work (2 * n + i) 0 → q ≡ parityOf (getD priorities u 0) → MarkSet winners winners′ u q → low′ ≤ low → low′ ≤ getD priorities u 0 → Reopening n priorities winners₀ work₀ priority winners′ (set work u 1) low′ (i + 1)
+    reopening-more {winners′} {q} {low′} u l eu eq m before here =
+        record {
+          most = omega (arith, r .most);
+          room = m .room ∙ r .room;
+          long = f .long ∙ r .long;
+          passed = λ j h. at j h (ℕ-discrete (getD (section 2 n work₀) j 0) u);
+          below = λ j h. elim (ℕ-discrete j i) [ yes e ↦ subst (λ (k : ℕ). low′ ≤ getD priorities k 0) (eu ∙ is l ∙ ap (λ (k : ℕ). getD (section 2 n work₀) k 0) (sym e)) here | no ne ↦ omega (arith, r .below j (omega arith)) ];
+          flag = λ w h ne. f .other w (apart w ne) ∙ r .flag w h ne;
+          mark = λ w h ne. m .other w (apart w ne) ∙ r .mark w h ne;
+          marks = f .marks ∙ r .marks;
+          queue = f .queue ∙ r .queue;
+          links = f .links ∙ r .links;
+        }
+      where
+        f : FlagSet n u 1 work (set work u 1)
+        f = flag-set long (subst (λ (v : ℕ). v < n) (sym eu) (reopening-vertex l))
+
+        apart : (w : ℕ) → getD (section 1 n work₀) w 0 ≢ 1 → w ≢ u
+        apart w ne e = ne (ap (λ (v : ℕ). getD (section 1 n work₀) v 0) (e ∙ eu) ∙ marked l)
+
+        at-u : Opened priorities winners′ (section 0 n (set work u 1)) u
+        at-u = record { flag = f .here; mark = m .here ∙ eq }
+
+        at : (j : ℕ) → j < i + 1 → Dec (getD (section 2 n work₀) j 0 ≡ u) → Opened priorities winners′ (section 0 n (set work u 1)) (getD (section 2 n work₀) j 0)
+        at j h (yes e) = subst (Opened priorities winners′ (section 0 n (set work u 1))) (sym e) at-u
+        at j h (no ne) =
+            let new : j ≢ i = λ e. ne (ap (λ (k : ℕ). getD (section 2 n work₀) k 0) e ∙ sym (is l) ∙ sym eu) in
+            let o = r .passed j (omega arith) in
+            record { flag = f .other _ ne ∙ o .flag; mark = m .other _ ne ∙ o .mark }
+
+    pub reopening-all : tail ≤ i → Reopened n priorities winners₀ work₀ priority winners work low
+    reopening-all l =
+        record {
+          most = r .most;
+          room = r .room;
+          long = r .long;
+          reopened =
+              λ u h one.
+              let q = p .queued .place u h one in
+              subst (Opened priorities winners (section 0 n work)) (q .2) (r .passed (q .0) (omega (arith, q .1)));
+          below =
+              λ u h one.
+              let q = p .queued .place u h one in
+              subst (λ (k : ℕ). low ≤ getD priorities k 0) (q .2) (r .below (q .0) (omega (arith, q .1)));
+          flag = r .flag;
+          mark = r .mark;
+          marks = r .marks;
+          queue = r .queue;
+          links = r .links;
+        }

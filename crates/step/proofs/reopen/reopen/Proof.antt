@@ -1,0 +1,116 @@
+-- `step::reopen::reopen` meets its contract. The invariant, `Reopening`: the queue's places below i are open again, what is not marked is as it was.
+-- Assumes nothing.
+use Prim.Native.Nat.{_+_, _*_, _-_, _<_}
+use borrow.Author.Needs.{needs}
+use native.Mathlib.Omega.{arith}
+use mathlib.Core.Path.{refl}
+use lib.ListN.{getD}
+use Rattle.game.specs.Answer.{markRoom}
+use Rattle.reach.proofs.Queues.{tail-bounded}
+use Rattle.step.proofs.Reopens.{Reopening, reopening-none, reopening-vertex, reopening-more, reopening-all}
+use Rattle.step.proofs.reopen.reopen.Statement.{statement}
+use Rattle.step.proofs.reopen.reopen.Tie as tie
+
+abbrev Inv-loop : tie.InvT-loop
+Inv-loop n priorities winners₀ work₀ tail priority queue low₀ i₀ winners work low i = Reopening n priorities winners₀ work₀ priority winners work low i
+
+abbrev μ-loop : tie.MeasureT-loop
+μ-loop n priorities winners₀ work₀ tail priority queue low₀ i₀ winners work low i = tail - i
+
+-- a turn's place is one of the queue's n, and a vertex stands there
+abbrev start : tie.In-loop Inv-loop μ-loop → tie.Start Inv-loop μ-loop
+start c = c .before .before .before .before .before
+
+place : (c : tie.In-loop Inv-loop μ-loop) → c .before .loop .i < start c .args .n
+place c = omega (arith, c .loop-test .taken, tail-bounded (start c .pre .queued))
+
+vertex : (c : tie.In-loop Inv-loop μ-loop) → getD (c .before .loop .work) (2 * start c .args .n + c .before .loop .i) 0 < start c .args .n
+vertex c = reopening-vertex (start c .pre) (c .before .loop .inv) (c .loop-test .taken)
+
+mul-queue : tie.Need-mul-queue Inv-loop μ-loop
+mul-queue c = search needs
+
+loop-holds : tie.Need-loop-holds Inv-loop μ-loop
+loop-holds c = reopening-none (c .before .before .before .pre)
+
+add-u : tie.Need-add-u Inv-loop μ-loop
+add-u c = omega (arith, place c, start c .pre .small)
+
+mul-u : tie.Need-mul-u Inv-loop μ-loop
+mul-u c = omega (arith, place c, start c .pre .small)
+
+slice-read-u : tie.Need-slice-read-u Inv-loop μ-loop
+slice-read-u c = omega (arith, place (c .before), c .before .before .loop .inv .long, start (c .before) .pre .work-long)
+
+cast-u : tie.Need-cast-u Inv-loop μ-loop
+cast-u c = omega (arith, vertex (c .before), start (c .before) .pre .small)
+
+shared-slice-read-p : tie.Need-shared-slice-read-p Inv-loop μ-loop
+shared-slice-read-p c = omega (arith, vertex (c .before .before), start (c .before .before) .pre .level)
+
+of-priority-requires : tie.Need-of-priority-requires Inv-loop μ-loop
+of-priority-requires c κs = search needs
+
+set-mark-requires : tie.Need-set-mark-requires Inv-loop μ-loop
+set-mark-requires c κs = let t = c .before .before .before .before in omega (arith, vertex t, start t .pre .room, t .before .loop .inv .room)
+
+mul-work : tie.Need-mul-work Inv-loop μ-loop
+mul-work c = let t = c .before .before .before .before .before .before .before in omega (arith, vertex t, start t .pre .small)
+
+slice-write-work : tie.Need-slice-write-work Inv-loop μ-loop
+slice-write-work c = let t = c .before .before .before .before .before .before .before in omega (arith, vertex t, start t .pre .work-long, t .before .loop .inv .long)
+
+cast-least : tie.Need-cast-least Inv-loop μ-loop
+cast-least c = omega (arith, c .before .before .before .before .before .shared-slice-known2 .given (getD (c .before .before .before .before .before .before .before .before .loop .work) (2 * start (c .before .before .before .before .before .before .before) .args .n + c .before .before .before .before .before .before .before .before .loop .i) 0))
+
+least-requires : tie.Need-least-requires Inv-loop μ-loop
+least-requires c κs = search needs
+
+add-i : tie.Need-add-i Inv-loop μ-loop
+add-i c = search needs
+
+loop-less : tie.Need-loop-less Inv-loop μ-loop
+loop-less c = search needs
+
+loop-again : tie.Need-loop-again Inv-loop μ-loop
+loop-again c =
+    let l = c .before in
+    let s = l .before .before in
+    let t = s .before .before .before .before .before in
+    reopening-more (start t .pre) (t .before .loop .inv) _ (t .loop-test .taken) refl (s .before .before .of-priority .ensures) (s .set-mark .ensures) (c .least .ensures .0) (c .least .ensures .1)
+
+same-length : tie.Need-same-length Inv-loop μ-loop
+unfolding markRoom
+same-length c = c .before .loop .inv .room
+
+same-length-2 : tie.Need-same-length-2 Inv-loop μ-loop
+same-length-2 c = search needs
+
+returns : tie.Need-returns Inv-loop μ-loop
+returns c = reopening-all (c .before .before .before .before .before .pre) (c .before .loop .inv) (c .loop-test .left)
+
+pub reopen-spec : {M : Type 1} → statement M
+reopen-spec =
+    tie.close
+    (tie.spec
+    Inv-loop
+    μ-loop
+    mul-queue
+    loop-holds
+    add-u
+    mul-u
+    slice-read-u
+    cast-u
+    shared-slice-read-p
+    of-priority-requires
+    set-mark-requires
+    mul-work
+    slice-write-work
+    cast-least
+    least-requires
+    add-i
+    loop-less
+    loop-again
+    same-length
+    same-length-2
+    returns)

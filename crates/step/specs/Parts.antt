@@ -1,0 +1,64 @@
+-- What the parts of a step ask and give. Section 0 of the work space holds the flags, section 1 the closure's marks, section 2 its queue.
+use Prim.Native.Nat.{ℕ, _*_, _<_, _≤_}
+use mathlib.Core.Path.{_≡_}
+use mathlib.Core.Logic.{_≢_}
+use mathlib.Core.List.{List}
+use lib.ListN.{length, getD}
+use Rattle.player.specs.Player.{IsPlayer, parityOf}
+use Rattle.game.specs.Tables.{gameOf, WellFormed}
+use Rattle.game.specs.Answer.{markRoom, markOf}
+use Rattle.justification.specs.Step.{Tested}
+use Rattle.reach.specs.Work.{section}
+use Rattle.reach.specs.Closure.{Queued}
+
+-- the test asks a vertex of a well-formed game, and a mark for every vertex
+pub record Testable (v : ℕ) (owners priorities starts targets winners : List ℕ) : Type 0 where
+  pub well-formed : WellFormed owners priorities starts targets
+  pub vertex : v < length owners
+  pub room : markRoom winners ≡ length owners
+  pub player : (u : ℕ) → u < length owners → IsPlayer (markOf winners u)
+
+-- and gives who wins v by its successors' marks, and his move
+pub record TestedBy (v : ℕ) (owners priorities starts targets winners : List ℕ) (winner to : ℕ) : Type 0 where
+  pub tested : Tested (gameOf owners priorities starts targets) (markOf winners) v winner to
+  pub player : IsPlayer winner
+
+-- the flag of v is x, and all else is as before
+pub record FlagSet (n v x : ℕ) (before after : List ℕ) : Type 0 where
+  pub long : length after ≡ length before
+  pub here : getD (section 0 n after) v 0 ≡ x
+  pub other : (u : ℕ) → u ≢ v → getD (section 0 n after) u 0 ≡ getD (section 0 n before) u 0
+  pub marks : section 1 n after ≡ section 1 n before
+  pub queue : section 2 n after ≡ section 2 n before
+  pub links : section 3 n after ≡ section 3 n before
+
+-- a line for v can be written
+pub record Keepable (v : ℕ) (moves work : List ℕ) : Type 0 where
+  pub vertex : v < length moves
+  pub work-long : length work ≡ 4 * length moves
+
+-- u is open with the mark of its own priority's parity
+pub record Opened (priorities winners flags : List ℕ) (u : ℕ) : Type 0 where
+  pub flag : getD flags u 0 ≡ 1
+  pub mark : markOf winners u ≡ parityOf (getD priorities u 0)
+
+-- the queue's vertices can be reopened
+pub record Reopenable (n : ℕ) (priorities winners work : List ℕ) (tail : ℕ) : Type 0 where
+  pub small : n ≤ 2048
+  pub level : length priorities ≡ n
+  pub room : markRoom winners ≡ n
+  pub work-long : length work ≡ 4 * n
+  pub queued : Queued n (section 1 n work) (section 2 n work) tail
+
+-- the marked vertices are open again, the others are as before, and low is at most `priority` and the priorities of what is open again
+pub record Reopened (n : ℕ) (priorities winners work : List ℕ) (priority : ℕ) (winners′ work′ : List ℕ) (low : ℕ) : Type 0 where
+  pub most : low ≤ priority
+  pub room : markRoom winners′ ≡ markRoom winners
+  pub long : length work′ ≡ length work
+  pub reopened : (u : ℕ) → u < n → getD (section 1 n work) u 0 ≡ 1 → Opened priorities winners′ (section 0 n work′) u
+  pub below : (u : ℕ) → u < n → getD (section 1 n work) u 0 ≡ 1 → low ≤ getD priorities u 0
+  pub flag : (u : ℕ) → u < n → getD (section 1 n work) u 0 ≢ 1 → getD (section 0 n work′) u 0 ≡ getD (section 0 n work) u 0
+  pub mark : (u : ℕ) → u < n → getD (section 1 n work) u 0 ≢ 1 → markOf winners′ u ≡ markOf winners u
+  pub marks : section 1 n work′ ≡ section 1 n work
+  pub queue : section 2 n work′ ≡ section 2 n work
+  pub links : section 3 n work′ ≡ section 3 n work

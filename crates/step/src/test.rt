@@ -1,0 +1,39 @@
+// The test of a vertex by its successors' marks.
+use game::vertex::Choice;
+use game::vertex::successors;
+use game::vertex::test_vertex;
+use player::Player;
+ghost use Rattle.step.specs.Parts.{Testable, TestedBy};
+
+// Who wins the vertex by the test, and his move; 65,535 where he does not own it.
+pub struct Line {
+    pub winner: u8,
+    pub to: u16,
+}
+
+pub fn test(
+    v: usize,
+    owners: &[u8],
+    priorities: &[u8],
+    starts: &[u16],
+    targets: &[u16],
+    winners: &[u8],
+) -> Line
+    requires { ⌜ Testable v (now owners) (now priorities) (now starts) (now targets) (now winners) ⌝ }
+    ensures { λ r. ⌜ TestedBy v (now (owners .entry)) (now (priorities .entry)) (now (starts .entry)) (now (targets .entry)) (now (winners .entry)) (r .winner) (r .to) ⌝ }
+{
+    let bit = owners[v];
+    let owner = Player { bit };
+    let choice = test_vertex(owner, successors(starts, targets, v), winners);
+    if let Choice::To(w) = choice {
+        return Line {
+            winner: owner.bit,
+            to: w,
+        };
+    }
+    let other = owner.opponent();
+    Line {
+        winner: other.bit,
+        to: 65535,
+    }
+}
