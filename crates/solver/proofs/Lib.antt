@@ -1,1 +1,5 @@
 pub mod Opening
+pub mod Running
+pub mod Ranked
+pub mod Fresh
+pub mod Outcomes

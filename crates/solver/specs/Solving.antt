@@ -18,16 +18,17 @@ abbrev pub solvedSaid : Solved → Said
 solvedSaid Done = success []
 solvedSaid (Refused r) = saidOf r
 
-module _ (owners priorities starts targets winners moves work winners′ moves′ work′ : List ℕ) where
-  -- "Solver and checker test 1 to 7, then 8"
-  abbrev pub solveRows : List Row
-  solveRows =
-      tableRows owners priorities starts targets ++
-      record { number = 8; applies = Fault8 (length owners) (length winners) (length moves) (length work) } ∷ []
+-- "Solver and checker test 1 to 7, then 8"
+abbrev pub lengthRow : (owners winners moves work : List ℕ) → List Row
+lengthRow owners winners moves work = record { number = 8; applies = Fault8 (length owners) (length winners) (length moves) (length work) } ∷ []
 
+abbrev pub solveRows : (owners priorities starts targets winners moves work : List ℕ) → List Row
+solveRows owners priorities starts targets winners moves work = tableRows owners priorities starts targets ++ lengthRow owners winners moves work
+
+module _ (owners priorities starts targets winners moves work winners′ moves′ work′ : List ℕ) where
   -- success: no row applies, winners and moves are an accepted answer in 01's form, the work space is all zero
   pub record Answers (values : List ℕ) : Type 0 where
-    pub none : None solveRows
+    pub none : None (solveRows owners priorities starts targets winners moves work)
     pub no-value : values ≡ []
     pub winners-long : length winners′ ≡ length winners
     pub moves-long : length moves′ ≡ length moves
@@ -36,7 +37,7 @@ module _ (owners priorities starts targets winners moves work winners′ moves�
 
   -- refusal: the first row that applies, and all lent memory unchanged
   pub record Refuses (number place : ℕ) : Type 0 where
-    pub first : First solveRows number place
+    pub first : First (solveRows owners priorities starts targets winners moves work) number place
     pub winners-same : winners′ ≡ winners
     pub moves-same : moves′ ≡ moves
     pub work-same : work′ ≡ work

@@ -1,62 +1,53 @@
 use borrow.Author.Needs.{needs}
+use Rattle.solver.proofs.Running.{Running, running-none, running-pickable, running-steppable, running-step, running-all}
+use Rattle.step.specs.State.{settledOf}
+use Rattle.pick.proofs.Picking.{picked-at, picked-nothing}
+use Rattle.justification.specs.Measure.{measure}
+use Rattle.game.specs.Answer.{markOf}
+use Rattle.game.specs.Tables.{gameOf}
+use lib.ListN.{length}
+use mathlib.Core.Path.{_≡_, refl}
 use Rattle.solver.proofs.settle.run.Statement.{statement}
 use Rattle.solver.proofs.settle.run.Tie as tie
-use Rattle.solver.proofs.settle.run.Reads as reads
-use Rattle.solver.proofs.settle.run.Lts as lts
-use Rattle.pick.proofs.pick.Reads as pick-reads
-use Rattle.step.proofs.step.Reads as step-reads
 
 abbrev Inv-loop : tie.InvT-loop
-Inv-loop owners priorities starts targets heads nexts sources tops winners₀ moves₀ work₀ n cursor₀ winners moves work cursor =
-    ?
+Inv-loop owners priorities starts targets heads nexts sources tops winners₀ moves₀ work₀ n cursor₀ winners moves work cursor = (n ≡ length owners) × Running cursor owners priorities starts targets heads nexts sources tops winners₀ moves₀ work₀ winners moves work
 
 abbrev μ-loop : tie.MeasureT-loop
-μ-loop owners priorities starts targets heads nexts sources tops winners₀ moves₀ work₀ n cursor₀ winners moves work cursor =
-    ?
+μ-loop owners priorities starts targets heads nexts sources tops winners₀ moves₀ work₀ n cursor₀ winners moves work cursor = measure (gameOf owners priorities starts targets) (markOf winners) (settledOf (length owners) work)
 
--- src/settle.rt:27:5
 loop-holds : tie.Need-loop-holds Inv-loop μ-loop
-loop-holds c = ?
+loop-holds c = (refl, running-none _ _ _ _ _ _ _ _ _ _ _ (c .before .before .before .before .before .before .before .before .before .before .before .pre))
 
--- src/settle.rt:28:13
 pick-requires : tie.Need-pick-requires Inv-loop μ-loop
-pick-requires c κs = ?
+pick-requires c κs = running-pickable _ _ _ _ _ _ _ _ _ _ _ (c .before .loop .inv .1) (c .before .before .before .before .before .before .before .before .before .before .before .before .before .pre .bytes)
 
--- src/settle.rt:29:24
 enum-known-picked : tie.Need-enum-known-picked Inv-loop μ-loop
 enum-known-picked c = search needs
 
--- src/settle.rt:30:13
 enum-told : tie.Need-enum-told Inv-loop μ-loop
 enum-told c = search needs
 
--- src/settle.rt:30:13
 same-length : tie.Need-same-length Inv-loop μ-loop
-same-length c = search needs
+same-length c = c .before .before .before .before .loop .inv .1 .winners-long
 
--- src/settle.rt:30:13
 same-length-2 : tie.Need-same-length-2 Inv-loop μ-loop
-same-length-2 c = search needs
+same-length-2 c = c .before .before .before .before .loop .inv .1 .moves-long
 
--- src/settle.rt:30:13
 same-length-3 : tie.Need-same-length-3 Inv-loop μ-loop
-same-length-3 c = search needs
+same-length-3 c = c .before .before .before .before .loop .inv .1 .work-long
 
--- src/settle.rt:30:13
 returns : tie.Need-returns Inv-loop μ-loop
-returns c = ?
+returns c = running-all _ _ _ _ _ _ _ _ _ _ _ (c .before .before .before .before .loop .inv .1) (picked-nothing _ _ _ (c .enum-told .given .1) (c .before .before .pick .ensures))
 
--- src/settle.rt:34:9
 step-requires : tie.Need-step-requires Inv-loop μ-loop
-step-requires c κs = ?
+step-requires c κs = running-steppable _ _ _ _ _ _ _ _ _ _ _ (c .before .before .before .before .before .before .before .before .before .loop .inv .1) (picked-at _ _ _ (c .before .before .before .before .before .picked .given .1) (c .before .before .before .before .before .before .before .pick .ensures))
 
--- src/settle.rt:27:5
 loop-less : tie.Need-loop-less Inv-loop μ-loop
-loop-less c = search needs
+loop-less c = c .before .before .before .before .before .before .step .ensures .falls
 
--- src/settle.rt:27:5
 loop-again : tie.Need-loop-again Inv-loop μ-loop
-loop-again c = ?
+loop-again c = (refl, running-step _ _ _ _ _ _ _ _ _ _ _ (c .before .before .before .before .before .before .before .before .before .before .before .before .before .before .before .before .loop .inv .1) (c .before .before .before .before .before .before .step .ensures))
 
 pub run-spec : {M : Type 1} → statement M
 run-spec =

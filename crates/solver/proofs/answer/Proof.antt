@@ -1,0 +1,71 @@
+use borrow.Author.Needs.{needs}
+use Rattle.solver.proofs.Fresh.{openable, settleable, answered}
+use Rattle.reach.proofs.Tables.{buildable}
+use mathlib.Core.Path.{refl}
+use Rattle.solver.proofs.answer.Statement.{statement}
+use Rattle.solver.proofs.answer.Tie as tie
+
+slice-aggregate-predecessors : tie.Need-slice-aggregate-predecessors
+slice-aggregate-predecessors c = search needs
+
+slice-aggregate-predecessors-2 : tie.Need-slice-aggregate-predecessors-2
+slice-aggregate-predecessors-2 c = search needs
+
+slice-aggregate-predecessors-3 : tie.Need-slice-aggregate-predecessors-3
+slice-aggregate-predecessors-3 c = search needs
+
+predecessors-requires : tie.Need-predecessors-requires
+predecessors-requires c κs = buildable _ _ _ _ _ _ _ ((c .before .before .before .before .before .before .before .before .before .before .pre) .well-formed) refl refl refl
+
+fill-requires : tie.Need-fill-requires
+fill-requires c κs = search needs
+
+open-all-requires : tie.Need-open-all-requires
+open-all-requires c κs = openable _ _ _ _ _ _ _ (c .before .before .before .before .before .before .before .before .before .before .before .before .before .before .before .before .before .before .before .before .pre) (c .before .before .before .before .fill .ensures .0) (c .before .before .before .before .fill .ensures .1)
+
+slice-aggregate-settle : tie.Need-slice-aggregate-settle
+slice-aggregate-settle c = search needs
+
+slice-aggregate-settle-2 : tie.Need-slice-aggregate-settle-2
+slice-aggregate-settle-2 c = search needs
+
+slice-aggregate-settle-3 : tie.Need-slice-aggregate-settle-3
+slice-aggregate-settle-3 c = search needs
+
+settle-requires : tie.Need-settle-requires
+settle-requires c κs = settleable _ _ _ _ _ _ _ (c .before .before .before .before .before .before .before .before .before .before .before .before .before .before .before .before .before .before .before .before .before .before .before .before .before .before .before .before .before .before .before .pre) (c .before .before .before .before .before .before .before .before .before .before .before .before .before .before .before .fill .ensures .0) (c .before .before .before .before .before .before .before .before .before .before .before .before .before .before .before .fill .ensures .1) (c .before .before .before .before .before .before .before .before .before .before .open-all .ensures) (c .before .before .before .before .before .before .before .before .before .before .before .before .before .before .before .before .before .before .before .before .predecessors .ensures)
+
+fill-requires-2 : tie.Need-fill-requires-2
+fill-requires-2 c κs = search needs
+
+same-length : tie.Need-same-length
+same-length c = answered _ _ _ _ _ _ _ (c .before .before .before .before .before .before .before .before .before .before .before .before .before .before .before .before .before .before .before .before .before .before .before .before .before .before .before .before .before .before .before .before .before .before .before .before .before .before .before .before .before .before .pre) (c .before .before .before .before .before .before .before .before .before .before .before .before .before .before .before .before .before .before .before .before .before .before .before .before .before .before .fill .ensures .0) (c .before .before .before .before .before .before .before .before .before .before .before .before .before .before .before .before .before .before .before .before .before .before .before .before .before .before .fill .ensures .1) (c .before .before .before .before .before .before .before .before .before .before .before .before .before .before .before .before .before .before .before .before .before .open-all .ensures) (c .before .before .before .before .before .before .before .before .before .before .settle .ensures) (c .before .before .fill2 .ensures .0) (c .before .before .fill2 .ensures .1) .winners-kept
+
+same-length-2 : tie.Need-same-length-2
+same-length-2 c = answered _ _ _ _ _ _ _ (c .before .before .before .before .before .before .before .before .before .before .before .before .before .before .before .before .before .before .before .before .before .before .before .before .before .before .before .before .before .before .before .before .before .before .before .before .before .before .before .before .before .before .pre) (c .before .before .before .before .before .before .before .before .before .before .before .before .before .before .before .before .before .before .before .before .before .before .before .before .before .before .fill .ensures .0) (c .before .before .before .before .before .before .before .before .before .before .before .before .before .before .before .before .before .before .before .before .before .before .before .before .before .before .fill .ensures .1) (c .before .before .before .before .before .before .before .before .before .before .before .before .before .before .before .before .before .before .before .before .before .open-all .ensures) (c .before .before .before .before .before .before .before .before .before .before .settle .ensures) (c .before .before .fill2 .ensures .0) (c .before .before .fill2 .ensures .1) .moves-kept
+
+same-length-3 : tie.Need-same-length-3
+same-length-3 c = answered _ _ _ _ _ _ _ (c .before .before .before .before .before .before .before .before .before .before .before .before .before .before .before .before .before .before .before .before .before .before .before .before .before .before .before .before .before .before .before .before .before .before .before .before .before .before .before .before .before .before .pre) (c .before .before .before .before .before .before .before .before .before .before .before .before .before .before .before .before .before .before .before .before .before .before .before .before .before .before .fill .ensures .0) (c .before .before .before .before .before .before .before .before .before .before .before .before .before .before .before .before .before .before .before .before .before .before .before .before .before .before .fill .ensures .1) (c .before .before .before .before .before .before .before .before .before .before .before .before .before .before .before .before .before .before .before .before .before .open-all .ensures) (c .before .before .before .before .before .before .before .before .before .before .settle .ensures) (c .before .before .fill2 .ensures .0) (c .before .before .fill2 .ensures .1) .zeroed .long
+
+returns : tie.Need-returns
+returns c = answered _ _ _ _ _ _ _ (c .before .before .before .before .before .before .before .before .before .before .before .before .before .before .before .before .before .before .before .before .before .before .before .before .before .before .before .before .before .before .before .before .before .before .before .before .before .before .before .before .before .before .pre) (c .before .before .before .before .before .before .before .before .before .before .before .before .before .before .before .before .before .before .before .before .before .before .before .before .before .before .fill .ensures .0) (c .before .before .before .before .before .before .before .before .before .before .before .before .before .before .before .before .before .before .before .before .before .before .before .before .before .before .fill .ensures .1) (c .before .before .before .before .before .before .before .before .before .before .before .before .before .before .before .before .before .before .before .before .before .open-all .ensures) (c .before .before .before .before .before .before .before .before .before .before .settle .ensures) (c .before .before .fill2 .ensures .0) (c .before .before .fill2 .ensures .1)
+
+pub answer-spec : {M : Type 1} → statement M
+answer-spec =
+    tie.close
+    (tie.spec
+    slice-aggregate-predecessors
+    slice-aggregate-predecessors-2
+    slice-aggregate-predecessors-3
+    predecessors-requires
+    fill-requires
+    open-all-requires
+    slice-aggregate-settle
+    slice-aggregate-settle-2
+    slice-aggregate-settle-3
+    settle-requires
+    fill-requires-2
+    same-length
+    same-length-2
+    same-length-3
+    returns)
