@@ -6,7 +6,6 @@ use mathlib.Core.List.{List, []}
 use native.Mathlib.Decide.{decLt}
 use native.Mathlib.Omega.{arith}
 use lib.ListN.{length}
-use lib.Seq.{ext-getD}
 use Rattle.refusal.specs.declared.Refusal.{Refusal}
 use Rattle.refusal.specs.Number.{numberOf}
 use Rattle.refusal.specs.Row.{success, first-not-none, first-unique, first-number, none-right, none-append}
@@ -14,7 +13,7 @@ use Rattle.refusal.specs.Found.{refusal-unique}
 use Rattle.game.specs.Tables.{gameOf, WellFormed}
 use Rattle.game.specs.Faults.{tableRows}
 use Rattle.game.specs.Answer.{markOf, moveOf}
-use Rattle.game.specs.Buffers.{Zeroed}
+use Rattle.game.proofs.Zeros.{zeroed-unique}
 use Rattle.game.proofs.Sizes.{lengths-fit}
 use Rattle.game.proofs.WellFormed.{none-applies}
 use Rattle.winning.specs.Answer.{Right}
@@ -22,12 +21,6 @@ use Rattle.winning.proofs.Accepted.{accepted-right, right-accepted}
 use Rattle.checker.specs.declared.Verdict.{Verdict}
 use Rattle.checker.specs.declared.Verdict.the-variants as verdicts
 use Rattle.checker.specs.Checking.{verdictSaid, afterTables, checkRows, Checks}
-
--- two work spaces that are all zero and as long as a third are equal
-pub zeroed-unique : {work a b : List ℕ} → Zeroed work a → Zeroed work b → a ≡ b
-zeroed-unique {work} {a} {b} x y =
-    let e : length a ≡ length b = x .long ∙ sym (y .long) in
-    ext-getD 0 a b e (λ i l. x .zero i l ∙ sym (y .zero i (omega arith)))
 
 module _ (owners priorities starts targets winners moves work : List ℕ) where
   -- two outcomes on the same input have the same verdict and the same final work space

@@ -4,3 +4,4 @@ pub mod Sizes
 pub mod Order
 pub mod Said
 pub mod WellFormed
+pub mod Zeros

@@ -51,10 +51,10 @@ module _ (owners priorities starts targets winners moves work : List ℕ) (a : A
                 moves-long = a .moves-long;
                 work-long = o .long ∙ (long1 ∙ a .work-long);
                 unmarked = unmarked;
-                safe = safe
+                safe = safe;
               };
           preds = b .preds;
-          edges = b .edges
+          edges = b .edges;
         }
 
     pub answered : {winners3 moves3 work3 work4 : List ℕ} → SettledTo owners priorities starts targets winners2 moves work2 winners3 moves3 work3 → length work4 ≡ length work3 → Filled work4 0 → AnsweredBy owners priorities starts targets winners moves work winners3 moves3 work4
@@ -63,5 +63,5 @@ module _ (owners priorities starts targets winners moves work : List ℕ) (a : A
           winners-kept = t .winners-long ∙ (sym (room-is winners2) ∙ (o .room ∙ room-is winners));
           moves-kept = t .moves-long;
           accepted = t .accepted;
-          zeroed = record { long = long4 ∙ (t .work-long ∙ (o .long ∙ long1)); zero = zero4 .all }
+          zeroed = record { long = long4 ∙ (t .work-long ∙ (o .long ∙ long1)); zero = zero4 .all };
         }

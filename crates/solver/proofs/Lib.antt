@@ -3,3 +3,4 @@ pub mod Running
 pub mod Ranked
 pub mod Fresh
 pub mod Outcomes
+pub mod Unique

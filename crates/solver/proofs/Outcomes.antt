@@ -28,7 +28,7 @@ module _ (owners priorities starts targets winners moves work : List ℕ) where
         first = first-left (tableRows owners priorities starts targets) (lengthRow owners winners moves work) (numberOf (r .kind)) (r .place) f;
         winners-same = refl;
         moves-same = refl;
-        work-same = refl
+        work-same = refl;
       }
 
   -- a refusal by the lengths
@@ -39,7 +39,7 @@ module _ (owners priorities starts targets winners moves work : List ℕ) where
         first = first-right (tableRows owners priorities starts targets) (lengthRow owners winners moves work) 8 x n (inl (refl, l));
         winners-same = refl;
         moves-same = refl;
-        work-same = refl
+        work-same = refl;
       })
 
   -- the answer
@@ -51,5 +51,5 @@ module _ (owners priorities starts targets winners moves work : List ℕ) where
         winners-long = a .winners-kept;
         moves-long = a .moves-kept;
         accepted = a .accepted;
-        zeroed = a .zeroed
+        zeroed = a .zeroed;
       }

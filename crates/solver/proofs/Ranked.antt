@@ -21,7 +21,7 @@ module _ (owners priorities starts targets heads nexts sources winners moves wor
         small = s .state .well-formed .sound .few;
         priorities-long = s .state .well-formed .level;
         tops-long = e;
-        work-long = s .state .work-long
+        work-long = s .state .work-long;
       }
 
   module _ {tops tops′ work′ : List ℕ} (r : Ranked (length owners) priorities tops work tops′ work′) where
@@ -50,14 +50,14 @@ module _ (owners priorities starts targets heads nexts sources winners moves wor
                       moves-long = s .state .moves-long;
                       work-long = r .work-kept ∙ s .state .work-long;
                       unmarked = subst (λ (x : List ℕ). Filled x 0) (sym (r .marks-kept)) (s .state .unmarked);
-                      safe = same-safe
+                      safe = same-safe;
                     };
                 preds = s .preds;
                 edges = s .edges;
-                ranks = r .ranks
+                ranks = r .ranks;
               };
           ahead = c .ahead;
-          bytes = bytes
+          bytes = bytes;
         }
 
     kept-set : (kept : List ℕ) → KeptSet owners priorities starts targets work kept → KeptSet owners priorities starts targets work′ kept
@@ -70,5 +70,5 @@ module _ (owners priorities starts targets heads nexts sources winners moves wor
           moves-long = t .moves-long;
           work-long = t .work-long ∙ r .work-kept;
           accepted = t .accepted;
-          unmoved = record { mark = λ kept k. t .unmoved .mark kept (kept-set kept k); move = λ kept k. t .unmoved .move kept (kept-set kept k) }
+          unmoved = record { mark = λ kept k. t .unmoved .mark kept (kept-set kept k); move = λ kept k. t .unmoved .move kept (kept-set kept k) };
         }

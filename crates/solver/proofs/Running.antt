@@ -32,7 +32,7 @@ module _ (owners priorities starts targets heads nexts sources tops winners₀ m
         winners-long = refl;
         moves-long = refl;
         work-long = refl;
-        carried = carried-none
+        carried = carried-none;
       }
 
   module _ {c : Cursor} {winners moves work : List ℕ} (r : Running c owners priorities starts targets heads nexts sources tops winners₀ moves₀ work₀ winners moves work) where
@@ -44,7 +44,7 @@ module _ (owners priorities starts targets heads nexts sources tops winners₀ m
           work-long = r .engine .state .work-long;
           bytes = bytes;
           ranks = r .engine .ranks;
-          ahead = r .ahead
+          ahead = r .ahead;
         }
 
     pub running-steppable : {v : ℕ} {c′ : Cursor} → Found (length owners) priorities (section 0 (length owners) work) v c′ → Steppable v c′ owners priorities starts targets heads nexts sources tops winners moves work
@@ -58,7 +58,7 @@ module _ (owners priorities starts targets heads nexts sources tops winners₀ m
           winners-long = s .winners-long ∙ r .winners-long;
           moves-long = (s .engine .state .moves-long ∙ sym (r .engine .state .moves-long)) ∙ r .moves-long;
           work-long = (s .engine .state .work-long ∙ sym (r .engine .state .work-long)) ∙ r .work-long;
-          carried = carried-more (r .carried) (s .carried)
+          carried = carried-more (r .carried) (s .carried);
         }
 
     pub running-all : AllSettled (length owners) (section 0 (length owners) work) → SettledTo owners priorities starts targets winners₀ moves₀ work₀ winners moves work
@@ -71,5 +71,5 @@ module _ (owners priorities starts targets heads nexts sources tops winners₀ m
           accepted =
               finished (gameOf owners priorities starts targets) (markOf winners) (moveOf moves) (settledOf (length owners) work) (r .engine .state .safe)
               (λ v l. omega (arith, all v l));
-          unmoved = record { mark = r .carried .mark; move = r .carried .move }
+          unmoved = record { mark = r .carried .mark; move = r .carried .move };
         }

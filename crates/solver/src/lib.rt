@@ -2,10 +2,13 @@
 use crate::settle::settle;
 use crate::start::open_all;
 use game::buffers::lengths;
-use game::tables::{Tables, test_tables};
+use game::tables::Tables;
+use game::tables::test_tables;
 use reach::cells::fill;
 use reach::lists::predecessors;
-use refusal::{Found, Kind, Refusal};
+use refusal::Found;
+use refusal::Kind;
+use refusal::Refusal;
 ghost use mathlib.Core.Path.{_≡_};
 ghost use Rattle.solver.specs.Solving.{Solves, solvedSaid};
 ghost use Rattle.solver.specs.Starting.{Answerable, AnsweredBy};
@@ -41,10 +44,28 @@ fn answer(
     let mut heads = [0u16; 2048];
     let mut nexts = [0u16; 16384];
     let mut sources = [0u16; 16384];
-    predecessors(owners.len(), starts, targets, &mut heads, &mut nexts, &mut sources);
+    predecessors(
+        owners.len(),
+        starts,
+        targets,
+        &mut heads,
+        &mut nexts,
+        &mut sources,
+    );
     fill(work, 0);
     open_all(priorities, winners, work);
-    settle(owners, priorities, starts, targets, &heads, &nexts, &sources, winners, moves, work);
+    settle(
+        owners,
+        priorities,
+        starts,
+        targets,
+        &heads,
+        &nexts,
+        &sources,
+        winners,
+        moves,
+        work,
+    );
     fill(work, 0);
 }
 

@@ -1,6 +1,9 @@
 // The engine: from any safe start to an accepted answer, one open vertex of least priority at a time.
+use pick::Cursor;
+use pick::Picked;
+use pick::from_priority;
+use pick::pick;
 use pick::ranks::rank;
-use pick::{Cursor, Picked, from_priority, pick};
 use step::step;
 ghost use Rattle.solver.specs.Settling.{Settleable, SettledTo, Runnable};
 
@@ -31,7 +34,21 @@ fn run(
         };
         let v = next.vertex;
         let at = next.cursor;
-        cursor = step(v, at, owners, priorities, starts, targets, heads, nexts, sources, tops, winners, moves, work);
+        cursor = step(
+            v,
+            at,
+            owners,
+            priorities,
+            starts,
+            targets,
+            heads,
+            nexts,
+            sources,
+            tops,
+            winners,
+            moves,
+            work,
+        );
     }
 }
 
@@ -55,5 +72,18 @@ pub fn settle(
     let mut tops = [0u16; 256];
     rank(n, priorities, &mut tops, work);
     let start = from_priority(n, priorities, &tops, work, 0, 0);
-    run(start, owners, priorities, starts, targets, heads, nexts, sources, &tops, winners, moves, work);
+    run(
+        start,
+        owners,
+        priorities,
+        starts,
+        targets,
+        heads,
+        nexts,
+        sources,
+        &tops,
+        winners,
+        moves,
+        work,
+    );
 }

@@ -13,7 +13,11 @@ module _ {owners priorities starts targets : List ℕ} where
   carried-none = record { kept = λ kept k. k; mark = λ kept k v l one. refl; move = λ kept k v l one. refl }
 
   -- one step more
-  pub carried-more : {winners moves work winners′ moves′ work′ winners″ moves″ work″ : List ℕ} → Carried owners priorities starts targets winners moves work winners′ moves′ work′ → Carried owners priorities starts targets winners′ moves′ work′ winners″ moves″ work″ → Carried owners priorities starts targets winners moves work winners″ moves″ work″
+  pub carried-more :
+      {winners moves work winners′ moves′ work′ winners″ moves″ work″ : List ℕ} →
+      Carried owners priorities starts targets winners moves work winners′ moves′ work′ →
+      Carried owners priorities starts targets winners′ moves′ work′ winners″ moves″ work″ →
+      Carried owners priorities starts targets winners moves work winners″ moves″ work″
   carried-more a b =
       record {
         kept = λ kept k. b .kept kept (a .kept kept k);
@@ -22,7 +26,10 @@ module _ {owners priorities starts targets : List ℕ} where
       }
 
   -- a step that leaves the line of every kept vertex as it was
-  pub carried-same : {winners moves work winners′ moves′ work′ : List ℕ} → ((kept : List ℕ) → KeptSet owners priorities starts targets work kept → (u : ℕ) → u < length owners → getD kept u 0 ≡ 1 → Same (markOf winners) (moveOf moves) (settledOf (length owners) work) (markOf winners′) (moveOf moves′) (settledOf (length owners) work′) u) → Carried owners priorities starts targets winners moves work winners′ moves′ work′
+  pub carried-same :
+      {winners moves work winners′ moves′ work′ : List ℕ} →
+      ((kept : List ℕ) → KeptSet owners priorities starts targets work kept → (u : ℕ) → u < length owners → getD kept u 0 ≡ 1 → Same (markOf winners) (moveOf moves) (settledOf (length owners) work) (markOf winners′) (moveOf moves′) (settledOf (length owners) work′) u) →
+      Carried owners priorities starts targets winners moves work winners′ moves′ work′
   carried-same same =
       record {
         kept = λ kept k. record { settled = λ v l one. same kept k v l one .flag ∙ k .settled v l one; closed = k .closed };

@@ -129,7 +129,13 @@ module _
           }
 
     -- settling v with the mark that it has
-    pub kept-stepped : {p m : ℕ} {moves′ work′ : List ℕ} → TestedBy v owners priorities starts targets winners p m → p ≡ parityOf (getD priorities v 0) → MoveSet moves moves′ v m → FlagSet (length moves) v 0 work work′ → Stepped cursor owners priorities starts targets heads nexts sources tops winners moves work winners moves′ work′
+    pub kept-stepped :
+        {p m : ℕ} {moves′ work′ : List ℕ} →
+        TestedBy v owners priorities starts targets winners p m →
+        p ≡ parityOf (getD priorities v 0) →
+        MoveSet moves moves′ v m →
+        FlagSet (length moves) v 0 work work′ →
+        Stepped cursor owners priorities starts targets heads nexts sources tops winners moves work winners moves′ work′
     kept-stepped {p} {m} {moves′} {work′} tested e move flag₀ =
         stepped winners moves′ work′ refl (move .long) (flag .long)
         (rw (flag .marks) (s .engine .state .unmarked)) (flag .links)
@@ -152,12 +158,18 @@ module _
             }
 
     -- turning v
-    pub turned-stepped : {p m : ℕ} {winners′ moves′ work′ : List ℕ} {c : Cursor} → TestedBy v owners priorities starts targets winners p m → p ≢ parityOf (getD priorities v 0) → length winners′ ≡ length winners → TurnedIn (length owners) v p m priorities targets sources winners moves work winners′ moves′ work′ c → Stepped c owners priorities starts targets heads nexts sources tops winners moves work winners′ moves′ work′
+    pub turned-stepped :
+        {p m : ℕ} {winners′ moves′ work′ : List ℕ} {c : Cursor} →
+        TestedBy v owners priorities starts targets winners p m →
+        p ≢ parityOf (getD priorities v 0) →
+        length winners′ ≡ length winners →
+        TurnedIn (length owners) v p m priorities targets sources winners moves work winners′ moves′ work′ c →
+        Stepped c owners priorities starts targets heads nexts sources tops winners moves work winners′ moves′ work′
     turned-stepped {p} {m} {winners′} {moves′} {work′} tested ne long t =
         stepped winners′ moves′ work′ long (t .move .long) (t .long) (t .unmarked) (t .links) (t .ahead)
         (turns g _ _ _ _ _ _ _ v m safe least (subst (λ (q : ℕ). Tested g (markOf winners) v q m) e (tested .tested)) leans turned)
         (turns-falls g _ _ _ _ _ _ _ v m safe least leans turned)
-        (λ k h u l one. same u l (outside k h u one) (λ r. never-reopened g (markOf winners) (moveOf moves) (settledOf (length owners) work) (λ w. getD k w 0 ≡ 1) v u (h .closed) (h .settled) (s .least .vertex) unsettled one (leans .leads u l r)))
+        (λ k h u l one. same u l (outside k h u one) (apart k h u l one))
       where
         e : p ≡ opponentOf (parityOf (getD priorities v 0))
         e = omega (arith, tested .player)
@@ -172,6 +184,12 @@ module _
               moved = t .move .other u ne;
               flag = same-settled (length owners) work work′ u (t .same-flag u l ne out);
             }
+
+        -- no kept vertex leans on v
+        apart : (kept : List ℕ) → KeptSet owners priorities starts targets work kept → (u : ℕ) → u < length owners → getD kept u 0 ≡ 1 → getD (t .reached) u 0 ≢ 1
+        apart kept k u l one r =
+            never-reopened g (markOf winners) (moveOf moves) (settledOf (length owners) work) (λ w. getD kept w 0 ≡ 1) v u
+            (k .closed) (k .settled) (s .least .vertex) unsettled one (leans .leads u l r)
 
         turned : Turned (markOf winners) (moveOf moves) (settledOf (length owners) work) (markOf winners′) (moveOf moves′) (settledOf (length owners) work′) (gameOf owners priorities starts targets) (λ u. getD (t .reached) u 0 ≡ 1) v m
         turned =

@@ -1,9 +1,14 @@
 // The C interface: what a Rust or C program links. Each function hands on to the entry point and gives its number and value.
-use checker::{Verdict, check};
-use housefile::{Read, read};
-use refusal::{Refusal, number};
-use solver::{Solved, solve};
-use update::{Updated, update};
+use checker::Verdict;
+use checker::check;
+use housefile::Read;
+use housefile::read;
+use refusal::Refusal;
+use refusal::number;
+use solver::Solved;
+use solver::solve;
+use update::Updated;
+use update::update;
 ghost use mathlib.Core.Path.{_≡_};
 ghost use Rattle.zoetelkorf.specs.Calls.{Gave, Told, ChecksBy, SolvesBy, UpdatesBy, ReadsBy};
 ghost use Rattle.update.specs.Updating.{Input};

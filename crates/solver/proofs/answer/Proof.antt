@@ -1,3 +1,4 @@
+-- The start with nothing kept is safe, and what the engine leaves is the answer (Fresh).
 use borrow.Author.Needs.{needs}
 use Rattle.solver.proofs.Fresh.{openable, settleable, answered}
 use Rattle.reach.proofs.Tables.{buildable}

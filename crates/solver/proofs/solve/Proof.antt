@@ -1,3 +1,4 @@
+-- The tables' rows, the lengths, and then the answer (Outcomes).
 use borrow.Author.Needs.{needs}
 use Rattle.solver.proofs.Outcomes.{solved-tables, solved-lengths, solved-answer}
 use Rattle.game.proofs.Stores.{room-is}

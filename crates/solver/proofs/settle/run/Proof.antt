@@ -1,3 +1,4 @@
+-- A state carried from the start; each step brings the measure down, and when nothing is open the answer is accepted (Running).
 use borrow.Author.Needs.{needs}
 use Rattle.solver.proofs.Running.{Running, running-none, running-pickable, running-steppable, running-step, running-all}
 use Rattle.step.specs.State.{settledOf}

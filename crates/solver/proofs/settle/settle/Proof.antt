@@ -1,3 +1,4 @@
+-- The lists by priority are built into section 3, and then the engine runs (Ranked).
 use borrow.Author.Needs.{needs}
 use Rattle.solver.proofs.Ranked.{rankable, startable, runnable, settled-from}
 use mathlib.Core.Path.{refl, _∙_}
