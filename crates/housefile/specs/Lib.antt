@@ -2,3 +2,4 @@ pub mod Format
 pub mod Filed
 pub mod Faults
 pub mod Reading
+pub mod Tests

@@ -1,4 +1,14 @@
 // The reader of the house game file.
+mod block;
+mod blocks;
+mod bytes;
+mod head;
+mod judged;
+mod places;
+pub mod reader;
+mod values;
+mod write;
+
 use refusal::Refusal;
 
 pub struct Header {

@@ -1,0 +1,11 @@
+pub mod Equal
+pub mod TableTests
+pub mod Verdicts
+pub mod Checked
+pub mod Choices
+pub mod Answers
+pub mod Solved
+pub mod Amends
+pub mod Updated
+pub mod Table
+pub mod ShutOut

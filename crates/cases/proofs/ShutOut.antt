@@ -1,0 +1,49 @@
+-- No program that 01 shuts out by name keeps its promise: on its small game the promise allows one outcome, and the program's is another.
+use Prim.Native.Nat.{ℕ}
+use mathlib.Core.Path.{_≡_, subst, sym, ap}
+use mathlib.Core.List.{List, [], _∷_}
+use native.Mathlib.Omega.{arith}
+use lib.ListN.{getD}
+use Rattle.refusal.specs.Row.{success, refused}
+use Rattle.winning.specs.Answer.{noMove}
+use Rattle.cases.specs.Games.{A, B, game9}
+use Rattle.cases.specs.Table.{solved, checked, updated, Holds, winnersA, movesA, winnersB, movesB, Only}
+use Rattle.cases.specs.ShutOut.{ShutOut, WrongPrograms, A2, chain, chain1, free, free1}
+use Rattle.cases.proofs.Answers.{answered}
+use Rattle.cases.proofs.Solved.{answer-allowed}
+use Rattle.cases.proofs.Table.{row-holds}
+
+-- what is not so of the one outcome that P allows is shut out
+shut : {X : Type 0} {P : X → Type 0} {a : X} (Q : X → Type 0) → Only P a → ¬ Q a → ShutOut P Q
+shut Q only h x p q = h (subst Q (only .no-other x p) q)
+
+pub wrong-programs : WrongPrograms
+wrong-programs =
+    record {
+      always-refuses = λ lent f. shut _ (solvedA lent f) (λ q. q);
+      always-even = λ lent f. shut _ (row-holds (solved B winnersB movesB) tt lent f) (λ q. let e : 1 ≡ 0 = q 0 in omega arith);
+      writes-nothing = λ lent f h. shut _ (solvedA lent f) (λ q. h (sym q));
+      accepts-all = λ work e. shut _ (row-holds (checked A winnersA (1 ∷ noMove ∷ 0 ∷ 3 ∷ []) (refused 14 1)) tt work e) (λ q. q);
+      rejects-all = λ work e. shut _ (row-holds (checked A winnersA movesA (success [])) tt work e) (λ q. q);
+      returns-old = λ lent f. shut _ (AtoB lent f) (λ q. let e : 1 ≡ 0 = ap (λ (l : List ℕ). getD l 0 0) q in omega arith);
+      invents-count = λ lent f count h. shut _ (AtoB lent f) (λ q. h (cc));
+      invents-change = λ lent f count h. shut _ (row-holds (updated A A winnersA movesA winnersA movesA 0) tt lent f) (λ q. h (cc));
+      solves-afresh = λ lent f. (
+        answer-allowed free1 (0 ∷ 0 ∷ 1 ∷ []) (0 ∷ 1 ∷ noMove ∷ []) (answered free1 (0 ∷ 0 ∷ 1 ∷ []) (0 ∷ 1 ∷ noMove ∷ []) tt) lent f,
+        shut _ (row-holds (updated free free1 (0 ∷ 0 ∷ 0 ∷ []) (1 ∷ 1 ∷ 2 ∷ []) (0 ∷ 0 ∷ 1 ∷ []) (1 ∷ 1 ∷ noMove ∷ []) 1) tt lent f)
+            (λ q. let e : 1 ≡ 0 = ap (λ (l : List ℕ). getD l 0 0) q in omega arith),
+      );
+      any-successor = λ lent f. shut _ (row-holds (solved game9 (0 ∷ 0 ∷ []) (1 ∷ 1 ∷ [])) tt lent f) (λ q. omega arith);
+      any-move-accepted = λ work e. shut _ (row-holds (checked game9 (0 ∷ 0 ∷ []) (0 ∷ 1 ∷ []) (refused 14 0)) tt work e) (λ q. q);
+      direct-predecessors = λ lent f.
+          shut _ (row-holds (updated chain chain1 (0 ∷ 0 ∷ 0 ∷ []) (1 ∷ 2 ∷ 2 ∷ []) (1 ∷ 1 ∷ 1 ∷ []) (noMove ∷ noMove ∷ noMove ∷ []) 3) tt lent f)
+          (λ q. omega arith);
+      carries-move = λ lent f.
+          shut _ (row-holds (updated A2 A winnersA (1 ∷ noMove ∷ 0 ∷ 3 ∷ []) winnersA movesA 3) tt lent f) (λ q. omega arith);
+    }
+  where
+    solvedA : Holds (solved A winnersA movesA)
+    solvedA = row-holds (solved A winnersA movesA) tt
+
+    AtoB : Holds (updated A B winnersA movesA winnersB movesB 3)
+    AtoB = row-holds (updated A B winnersA movesA winnersB movesB 3) tt

@@ -1,0 +1,123 @@
+-- What the reader's parts promise one another.
+use Prim.Native.Nat.{ℕ, _+_, _*_, _<_, _≤_}
+use mathlib.Core.Path.{_≡_}
+use mathlib.Core.Logic.{_≢_}
+use mathlib.Core.List.{List, [], _∷_}
+use lib.ListN.{length}
+use Rattle.refusal.specs.Row.{Row, Said, success}
+use Rattle.refusal.specs.Found.{saidOf}
+use Rattle.housefile.specs.declared.judged.Judged.{Judged}
+use Rattle.housefile.specs.declared.judged.Judged.the-variants.{Passed, Refused}
+use Rattle.game.specs.Faults.{Fault2, Fault3, Fault5, Fault6, Fault7}
+use Rattle.housefile.specs.Format.{sumTo, vertexBlocks, targetBlocks, blocksOf, highestOf}
+use Rattle.housefile.specs.Filed.{byteAt, verticesFiled, edgesFiled, countFiled, ownersFiled, prioritiesFiled, startsFiled, targetsFiled}
+use Rattle.housefile.specs.Faults.{Fault45, blocksRows}
+
+-- what a part of the judgement says in the paper's numbers
+abbrev pub judgedSaid : Judged → Said
+judgedSaid Passed = success []
+judgedSaid (Refused r) = saidOf r
+
+-- r is the two-byte number x
+pub record Small (x r : ℕ) : Type 0 where
+  pub is : r ≡ x
+  pub small : r < 65536
+
+-- block b lies in the file, and the file is to have it
+pub record Present (file : List ℕ) (b : ℕ) : Type 0 where
+  pub room : 512 * b + 512 ≤ length file
+  pub counted : b < blocksOf (verticesFiled file) (edgesFiled file)
+
+-- b is a block of a file of n vertices and m edges
+pub record Used (n m b : ℕ) : Type 0 where
+  pub vertices : n < 65536
+  pub edges : m < 65536
+  pub counted : b < blocksOf n m
+
+-- r is the sum of (i + 1) × byte i over the 510 bytes from the offset on
+pub record Weighed (file : List ℕ) (from r : ℕ) : Type 0 where
+  pub is : r ≡ sumTo 510 (λ i. (i + 1) * byteAt file (from + i))
+
+-- a payload byte past those used is not zero
+pub record Stain (file : List ℕ) (from used k : ℕ) : Type 0 where
+  pub unused : used ≤ k
+  pub payload : k < 504
+  pub set : byteAt file (from + 6 + k) ≢ 0
+
+-- the sizes and the length are as they must be: all that is filed lies in the file
+pub record Sized (file : List ℕ) : Type 0 where
+  pub some : 1 ≤ verticesFiled file
+  pub few : verticesFiled file ≤ 2048
+  pub edges : edgesFiled file ≤ 16384
+  pub long : length file ≡ 512 * blocksOf (verticesFiled file) (edgesFiled file)
+
+-- "then each block in turn"
+abbrev pub turnRows : List ℕ → List Row
+turnRows file = blocksRows file 1 (vertexBlocks (verticesFiled file) + targetBlocks (edgesFiled file))
+
+-- the rows of the values, before the lengths of the lent tables
+abbrev pub filedRows : List ℕ → List Row
+filedRows file =
+    record { number = 45; applies = Fault45 file } ∷
+    record { number = 2; applies = Fault2 (ownersFiled file) } ∷
+    record { number = 3; applies = Fault3 (verticesFiled file) (prioritiesFiled file) } ∷
+    record { number = 5; applies = Fault5 (verticesFiled file) (startsFiled file) (targetsFiled file) } ∷
+    record { number = 6; applies = Fault6 (verticesFiled file) (targetsFiled file) } ∷
+    record { number = 7; applies = Fault7 (verticesFiled file) (startsFiled file) (targetsFiled file) } ∷ []
+
+-- v is a vertex of the file
+pub record Vertex (file : List ℕ) (v : ℕ) : Type 0 where
+  pub sized : Sized file
+  pub below : v < verticesFiled file
+
+-- the first block of targets
+abbrev pub firstTarget : List ℕ → ℕ
+firstTarget file = 1 + vertexBlocks (verticesFiled file)
+
+-- e is the place of an edge, and first the block in which the targets begin
+pub record Edge (file : List ℕ) (first e : ℕ) : Type 0 where
+  pub sized : Sized file
+  pub begins : first ≡ firstTarget file
+  pub below : e < edgesFiled file
+
+-- the successor counts add up to the number of edges
+pub record Summed (file : List ℕ) : Type 0 where
+  pub sized : Sized file
+  pub sum : sumTo (verticesFiled file) (countFiled file) ≡ edgesFiled file
+
+-- r is the sum of the successor counts
+pub record Totals (file : List ℕ) (r : ℕ) : Type 0 where
+  pub is : r ≡ sumTo (verticesFiled file) (countFiled file)
+
+-- a stretch of the targets
+pub record Span (file : List ℕ) (first from long : ℕ) : Type 0 where
+  pub sized : Sized file
+  pub begins : first ≡ firstTarget file
+  pub within : from + long ≤ edgesFiled file
+
+-- a lent table of its fixed length
+pub record Lent (file : List ℕ) (size : ℕ) (table : List ℕ) : Type 0 where
+  pub sized : Sized file
+  pub long : length table ≡ size
+
+-- n vertices, and the highest priority
+pub record Tops (file : List ℕ) (n top : ℕ) : Type 0 where
+  pub sized : Sized file
+  pub vertices : n ≡ verticesFiled file
+  pub highest : top ≡ highestOf (prioritiesFiled file)
+
+-- r is the successor count of v, zero past the vertices
+pub record CountAt (file : List ℕ) (v r : ℕ) : Type 0 where
+  pub here : v < verticesFiled file → r ≡ countFiled file v
+  pub past : verticesFiled file ≤ v → r ≡ 0
+
+-- r is the sum up to the last start, and zero past it
+pub record StartAt (n v sum r : ℕ) : Type 0 where
+  pub here : v ≤ n → r ≡ sum
+  pub past : n < v → r ≡ 0
+
+-- m edges, and the block in which their targets begin
+pub record TargetAt (file : List ℕ) (m first : ℕ) : Type 0 where
+  pub sized : Sized file
+  pub edges : m ≡ edgesFiled file
+  pub begins : first ≡ firstTarget file

@@ -1,0 +1,41 @@
+-- Copying the closure's marks: one cell more at each vertex.
+use Prim.Native.Nat.{ℕ, _+_, _*_, _<_, _≤_}
+use mathlib.Core.Path.{_≡_, subst, _∙_}
+use mathlib.Core.List.{List}
+use native.Mathlib.Nat.{not-suc-le-zero}
+use native.Mathlib.Omega.{arith}
+use borrow.Author.Count.{below-more}
+use lib.ListN.{length, getD, set}
+use lib.Seq.{getD-set-same, getD-set-other}
+use Rattle.reach.specs.Work.{section}
+use Rattle.reach.proofs.Sections.{section-read}
+use Rattle.update.specs.Marking.{Copyable, Copied, Flags}
+
+pub copied-none : {n : ℕ} {work marks : List ℕ} → Copied n work marks 0
+copied-none = record { same = λ u l. absurd (not-suc-le-zero l) }
+
+module _ (n : ℕ) (work : List ℕ) (long : length work ≡ 4 * n) (v : ℕ) (below : v < n) where
+  -- the cell that is read is the vertex's mark
+  pub mark-read : getD work (n + v) 0 ≡ getD (section 1 n work) v 0
+  mark-read = section-read n work long 1 v (omega arith) below
+
+  pub copied-more : {marks : List ℕ} → v < length marks → Copied n work marks v → Copied n work (set marks v (getD work (n + v) 0)) (v + 1)
+  copied-more {marks} l c =
+      record {
+        same =
+            below-more (λ u. getD (set marks v (getD work (n + v) 0)) u 0 ≡ getD (section 1 n work) u 0) v
+            (λ u k. getD-set-other marks v u (getD work (n + v) 0) 0 (omega arith) ∙ c .same u k)
+            (getD-set-same marks v (getD work (n + v) 0) 0 l ∙ mark-read);
+      }
+
+pub copied-all : {n : ℕ} {work marks : List ℕ} {v : ℕ} → n ≤ v → Copied n work marks v → Copied n work marks n
+copied-all l c = record { same = λ u k. c .same u (omega arith) }
+
+-- flags that are copied are flags of the same
+pub copied-flags : {P : ℕ → Type 0} {n : ℕ} {work marks : List ℕ} → Copied n work marks n → Flags P n (section 1 n work) → Flags P n marks
+copied-flags c f =
+    record {
+      flag = λ v l. omega (arith, c .same v l, f .flag v l);
+      holds = λ v l e. f .holds v l (omega (arith, c .same v l));
+      marked = λ v l p. c .same v l ∙ f .marked v l p;
+    }

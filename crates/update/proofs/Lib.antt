@@ -1,0 +1,16 @@
+pub mod Differing
+pub mod Numbers
+pub mod Reaching
+pub mod SecondRows
+pub mod Lengths
+pub mod Rows
+pub mod Refusals
+pub mod Unique
+pub mod Seeds
+pub mod Copies
+pub mod Marks
+pub mod Preparing
+pub mod Keeping
+pub mod Anew
+pub mod Redoings
+pub mod Outcomes
