@@ -13,7 +13,7 @@ use Rattle.game.specs.Buffers.{Zeroed}
 use Rattle.game.proofs.Sizes.{lengths-fit}
 use Rattle.winning.proofs.Reflect.{Tests, holds, fails, tests-and, tests-eq, tests-lt}
 use Rattle.checker.specs.Checking.{afterTables, checkRows}
-use Rattle.checker.proofs.Unique.{zeroed-unique}
+use Rattle.game.proofs.Zeros.{zeroed-unique}
 use Rattle.cases.specs.Games.{FourTables, size}
 use Rattle.cases.specs.Table.{checked, judgement, Checking, zeros, workAfter, Only, Holds}
 use Rattle.cases.proofs.Equal.{by-test, tests-itself, isSame, tests-same, isSaid, same-said}

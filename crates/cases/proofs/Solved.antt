@@ -8,7 +8,7 @@ use lib.ListN.{length}
 use Rattle.refusal.specs.Row.{Row, Said, success, refused, Gives, None, First, none-append, first-left, first-not-none, first-unique}
 use Rattle.game.specs.Buffers.{Fault8}
 use Rattle.game.proofs.Sizes.{lengths-fit}
-use Rattle.checker.proofs.Unique.{zeroed-unique}
+use Rattle.game.proofs.Zeros.{zeroed-unique}
 use Rattle.solver.specs.Solving.{solveRows}
 use Rattle.cases.specs.Games.{FourTables, size}
 use Rattle.cases.specs.Table.{solved, unsolved, Lent, Fits, outcome, Solving, zeros, Holds}
@@ -23,7 +23,7 @@ module _ (g : FourTables) (lent : Lent) where
   row8 = record { number = 8; applies = Fault8 (size g) (length (lent .winners)) (length (lent .moves)) (length (lent .work)) }
 
   abbrev rows : List Row
-  rows = solveRows (g .owners) (g .priorities) (g .starts) (g .targets) (lent .winners) (lent .moves) (lent .work) [] [] []
+  rows = solveRows (g .owners) (g .priorities) (g .starts) (g .targets) (lent .winners) (lent .moves) (lent .work)
 
   -- none applies to well-formed tables and buffers that fit
   no-row : Formed g → Fits (size g) lent → None rows

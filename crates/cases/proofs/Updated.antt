@@ -11,7 +11,7 @@ use Rattle.game.specs.Game.{Listed}
 use Rattle.game.specs.Answer.{markOf, moveOf}
 use Rattle.winning.specs.Answer.{Accepted, answerRows}
 use Rattle.winning.proofs.Reflect.{Tests, holds, fails, tests-and, tests-eq}
-use Rattle.checker.proofs.Unique.{zeroed-unique}
+use Rattle.game.proofs.Zeros.{zeroed-unique}
 use Rattle.update.specs.Amended.{Reaches, Number}
 use Rattle.update.specs.Updating.{Fault8, old-winners-long, old-moves-long, winners-long, moves-long, work-long, Fault9, secondRows, updateRows}
 use Rattle.cases.specs.Games.{FourTables, gameIn, size}
