@@ -1,10 +1,12 @@
 // Runs the test of the tables on game A and on malformed tables, a line each: the number and the place, 0 and 0 for well formed.
 // Then the checker on P1 and P5 to P8, and the solver on P1, P2, P9 and P10, with the winner and the move of each vertex.
-use checker::{Verdict, check};
+use checker::Verdict;
+use checker::check;
 use game::tables::Tables;
 use game::tables::test_tables;
 use libc::STDOUT_FILENO;
-use solver::{Solved, solve};
+use solver::Solved;
+use solver::solve;
 ghost use Prim.Native.Nat.{_<_};
 ghost use lib.ListN.{length};
 
@@ -102,7 +104,15 @@ fn largest() {
 }
 
 // The checker's verdict on winners and moves of a game with up to four vertices.
-fn judged(owners: &[u8], priorities: &[u8], starts: &[u16], targets: &[u16], winners: &[u8], moves: &[u16], work: &mut [u16]) {
+fn judged(
+    owners: &[u8],
+    priorities: &[u8],
+    starts: &[u16],
+    targets: &[u16],
+    winners: &[u8],
+    moves: &[u16],
+    work: &mut [u16],
+) {
     let verdict = check(owners, priorities, starts, targets, winners, moves, work);
     match verdict {
         Verdict::Accepted => print_line(0, 0),
@@ -116,12 +126,28 @@ fn judged(owners: &[u8], priorities: &[u8], starts: &[u16], targets: &[u16], win
 
 fn judged_a(winners: &[u8], moves: &[u16]) {
     let mut work = [7u16; 16];
-    judged(&[0, 1, 0, 1], &[0, 1, 2, 3], &[0, 2, 3, 4, 5], &[1, 2, 0, 0, 3], winners, moves, &mut work);
+    judged(
+        &[0, 1, 0, 1],
+        &[0, 1, 2, 3],
+        &[0, 2, 3, 4, 5],
+        &[1, 2, 0, 0, 3],
+        winners,
+        moves,
+        &mut work,
+    );
 }
 
 fn judged_p8() {
     let mut work = [7u16; 8];
-    judged(&[1, 1], &[0, 1], &[0, 2, 3], &[0, 1, 1], &[0, 1], &[65535, 1], &mut work);
+    judged(
+        &[1, 1],
+        &[0, 1],
+        &[0, 2, 3],
+        &[0, 1, 1],
+        &[0, 1],
+        &[65535, 1],
+        &mut work,
+    );
 }
 
 fn judged_all() {
@@ -143,7 +169,15 @@ fn show_answer(winners: &[u8], moves: &[u16]) {
     }
 }
 
-fn solved(owners: &[u8], priorities: &[u8], starts: &[u16], targets: &[u16], winners: &mut [u8], moves: &mut [u16], work: &mut [u16]) {
+fn solved(
+    owners: &[u8],
+    priorities: &[u8],
+    starts: &[u16],
+    targets: &[u16],
+    winners: &mut [u8],
+    moves: &mut [u16],
+    work: &mut [u16],
+) {
     let answer = solve(owners, priorities, starts, targets, winners, moves, work);
     match answer {
         Solved::Done => show_answer(winners, moves),
@@ -159,21 +193,45 @@ fn solved_a(owners: &[u8]) {
     let mut winners = [7u8; 4];
     let mut moves = [7u16; 4];
     let mut work = [7u16; 16];
-    solved(owners, &[0, 1, 2, 3], &[0, 2, 3, 4, 5], &[1, 2, 0, 0, 3], &mut winners, &mut moves, &mut work);
+    solved(
+        owners,
+        &[0, 1, 2, 3],
+        &[0, 2, 3, 4, 5],
+        &[1, 2, 0, 0, 3],
+        &mut winners,
+        &mut moves,
+        &mut work,
+    );
 }
 
 fn solved_p9() {
     let mut winners = [7u8; 2];
     let mut moves = [7u16; 2];
     let mut work = [7u16; 8];
-    solved(&[0, 0], &[1, 2], &[0, 2, 3], &[0, 1, 1], &mut winners, &mut moves, &mut work);
+    solved(
+        &[0, 0],
+        &[1, 2],
+        &[0, 2, 3],
+        &[0, 1, 1],
+        &mut winners,
+        &mut moves,
+        &mut work,
+    );
 }
 
 fn solved_p10(priority: u8) {
     let mut winners = [7u8; 1];
     let mut moves = [7u16; 1];
     let mut work = [7u16; 4];
-    solved(&[1], &[priority], &[0, 1], &[0], &mut winners, &mut moves, &mut work);
+    solved(
+        &[1],
+        &[priority],
+        &[0, 1],
+        &[0],
+        &mut winners,
+        &mut moves,
+        &mut work,
+    );
 }
 
 fn solved_all() {

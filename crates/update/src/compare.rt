@@ -47,7 +47,10 @@ pub fn differs(
     if priorities[v] != priorities2[v] {
         return true;
     }
-    if same_stretch(successors(starts, targets, v), successors(starts2, targets2, v)) {
+    if same_stretch(
+        successors(starts, targets, v),
+        successors(starts2, targets2, v),
+    ) {
         return false;
     }
     true

@@ -1,5 +1,8 @@
 // The marked vertices decided anew, the others kept: the engine's start is prepared from the old answer, and the engine run.
-use game::answer::{mark, record_move, recorded, set_mark};
+use game::answer::mark;
+use game::answer::record_move;
+use game::answer::recorded;
+use game::answer::set_mark;
 use player::Player;
 use reach::cells::fill;
 use solver::settle::settle;
@@ -76,7 +79,27 @@ pub fn decide(
     ensures { λ _. ⌜ DecidedAnew (now (owners .entry)) (now (priorities .entry)) (now (starts .entry)) (now (targets .entry)) (now («old_winners» .entry)) (now («old_moves» .entry)) (now (marks .entry)) (now (winners .entry)) (now (moves .entry)) (now (work .entry)) (now (winners .exit)) (now (moves .exit)) (now (work .exit)) ⌝ }
 {
     let n = owners.len();
-    prepare(n, priorities, old_winners, old_moves, marks, winners, moves, work);
-    settle(owners, priorities, starts, targets, heads, nexts, sources, winners, moves, work);
+    prepare(
+        n,
+        priorities,
+        old_winners,
+        old_moves,
+        marks,
+        winners,
+        moves,
+        work,
+    );
+    settle(
+        owners,
+        priorities,
+        starts,
+        targets,
+        heads,
+        nexts,
+        sources,
+        winners,
+        moves,
+        work,
+    );
     fill(work, 0);
 }

@@ -1,8 +1,9 @@
 // The update from one game to an amended one: checked lines that no amendment reaches are kept, all others decided anew.
-use checker::{Verdict, judge};
 use crate::deciding::decide;
 use crate::marking::mark_reaching;
 use crate::refuse::test_input;
+use checker::Verdict;
+use checker::judge;
 use game::tables::Tables;
 use reach::cells::fill;
 use reach::lists::predecessors;
@@ -47,7 +48,14 @@ fn redo(
     let mut nexts = [0u16; 16384];
     let mut sources = [0u16; 16384];
     let mut marks = [0u8; 2048];
-    predecessors(owners2.len(), starts2, targets2, &mut heads, &mut nexts, &mut sources);
+    predecessors(
+        owners2.len(),
+        starts2,
+        targets2,
+        &mut heads,
+        &mut nexts,
+        &mut sources,
+    );
     // No vertex has a choice of moves: the closure follows every edge.
     fill(moves, 65535);
     let count = mark_reaching(
@@ -130,7 +138,15 @@ pub fn update(
     if let Tables::Refused(r) = tested {
         return Updated::Refused(r);
     }
-    let verdict = judge(owners, priorities, starts, targets, old_winners, old_moves, work);
+    let verdict = judge(
+        owners,
+        priorities,
+        starts,
+        targets,
+        old_winners,
+        old_moves,
+        work,
+    );
     let Verdict::Accepted = verdict else {
         return given(verdict);
     };

@@ -1,7 +1,8 @@
 // What an amendment reaches: every vertex with a path to a differing one, marked by the closure backwards from those.
 use crate::compare::differs;
 use reach::cells::fill;
-use reach::closure::{close, seed};
+use reach::closure::close;
+use reach::closure::seed;
 ghost use Prim.Native.Nat.{_<_};
 ghost use lib.ListN.{length};
 ghost use Rattle.game.specs.Tables.{gameOf};

@@ -1,6 +1,9 @@
 // The update's tests before the checker's: both games' tables, their sizes, the lengths of the five lent buffers.
-use game::tables::{Tables, test_tables};
-use refusal::{Found, Kind, Refusal};
+use game::tables::Tables;
+use game::tables::test_tables;
+use refusal::Found;
+use refusal::Kind;
+use refusal::Refusal;
 ghost use mathlib.Core.Path.{_≡_};
 ghost use Prim.Native.Nat.{_+_, _<_, _≤_};
 ghost use Rattle.refusal.specs.Number.{numberOf};

@@ -7,6 +7,8 @@ use Rattle.refusal.specs.Found.{saidOf}
 use Rattle.refusal.specs.declared.Refusal.{Refusal}
 use Rattle.checker.specs.Checking.{Checks}
 use Rattle.solver.specs.Solving.{Solves}
+use Rattle.update.specs.Updating.{Input, Updates}
+use Rattle.housefile.specs.Reading.{Reads}
 
 -- "The result is the refusal's number …, 0 on success"
 abbrev pub numberSaid : Said → ℕ
@@ -42,3 +44,10 @@ ChecksBy owners priorities starts targets winners moves work work′ number valu
 abbrev pub SolvesBy : (owners priorities starts targets winners moves work winners′ moves′ work′ : List ℕ) (number value : ℕ) → Type 0
 SolvesBy owners priorities starts targets winners moves work winners′ moves′ work′ number value =
     Told (Solves owners priorities starts targets winners moves work winners′ moves′ work′) number value
+
+abbrev pub UpdatesBy : (i : Input) (winners′ moves′ work′ : List ℕ) (number value : ℕ) → Type 0
+UpdatesBy i winners′ moves′ work′ number value = Told (Updates i winners′ moves′ work′) number value
+
+abbrev pub ReadsBy : (file owners priorities starts targets owners′ priorities′ starts′ targets′ : List ℕ) (number value : ℕ) → Type 0
+ReadsBy file owners priorities starts targets owners′ priorities′ starts′ targets′ number value =
+    Told (Reads file owners priorities starts targets owners′ priorities′ starts′ targets′) number value

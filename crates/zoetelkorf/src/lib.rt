@@ -2,16 +2,15 @@
 use checker::Verdict;
 use checker::check;
 use housefile::Read;
-use housefile::read;
+use housefile::reader::read;
 use refusal::Refusal;
 use refusal::number;
 use solver::Solved;
 use solver::solve;
 use update::Updated;
 use update::update;
-ghost use mathlib.Core.Path.{_≡_};
-ghost use Rattle.zoetelkorf.specs.Calls.{Gave, Told, ChecksBy, SolvesBy, UpdatesBy, ReadsBy};
-ghost use Rattle.update.specs.Updating.{Input};
+ghost use Rattle.update.specs.Refusing.{inputOf};
+ghost use Rattle.zoetelkorf.specs.Calls.{Gave, ChecksBy, SolvesBy, UpdatesBy, ReadsBy};
 
 // A refusal's number, with its place as the value.
 fn refused(r: Refusal, value: &mut u64) -> u64
@@ -63,4 +62,70 @@ pub extern "C" fn zoetelkorf_solve(
     }
     *value = 0;
     0
+}
+
+#[no_mangle]
+pub extern "C" fn zoetelkorf_update(
+    owners: &[u8],
+    priorities: &[u8],
+    starts: &[u16],
+    targets: &[u16],
+    owners2: &[u8],
+    priorities2: &[u8],
+    starts2: &[u16],
+    targets2: &[u16],
+    old_winners: &[u8],
+    old_moves: &[u16],
+    winners: &mut [u8],
+    moves: &mut [u16],
+    work: &mut [u16],
+    value: &mut u64,
+) -> u64
+    ensures { λ n. ⌜ UpdatesBy (inputOf (now (owners .entry)) (now (priorities .entry)) (now (starts .entry)) (now (targets .entry)) (now (owners2 .entry)) (now (priorities2 .entry)) (now (starts2 .entry)) (now (targets2 .entry)) (now («old_winners» .entry)) (now («old_moves» .entry)) (now (winners .entry)) (now (moves .entry)) (now (work .entry))) (now (winners .exit)) (now (moves .exit)) (now (work .exit)) n (now (value .exit)) ⌝ }
+{
+    let updated = update(
+        owners,
+        priorities,
+        starts,
+        targets,
+        owners2,
+        priorities2,
+        starts2,
+        targets2,
+        old_winners,
+        old_moves,
+        winners,
+        moves,
+        work,
+    );
+    match updated {
+        Updated::Refused(r) => refused(r, value),
+        Updated::Done(count) => {
+            *value = count as u64;
+            0
+        }
+    }
+}
+
+#[no_mangle]
+pub extern "C" fn zoetelkorf_read(
+    file: &[u8],
+    owners: &mut [u8],
+    priorities: &mut [u8],
+    starts: &mut [u16],
+    targets: &mut [u16],
+    value: &mut u64,
+) -> u64
+    ensures { λ n. ⌜ ReadsBy (now (file .entry)) (now (owners .entry)) (now (priorities .entry)) (now (starts .entry)) (now (targets .entry)) (now (owners .exit)) (now (priorities .exit)) (now (starts .exit)) (now (targets .exit)) n (now (value .exit)) ⌝ }
+{
+    let taken = read(file, owners, priorities, starts, targets);
+    match taken {
+        Read::Refused(r) => refused(r, value),
+        Read::Game(h) => {
+            let edges = h.edges as u64;
+            let vertices = h.vertices as u64;
+            *value = edges * 65536 + vertices;
+            0
+        }
+    }
 }

@@ -84,8 +84,7 @@ loop-less c = search needs
 loop-again : tie.Need-loop-again Inv-loop μ-loop
 loop-again c =
     let moved = c .before .before .before in
-    let marked = moved .before .before .before .before .before in
-    (
+    let marked = moved .before .before .before .before .before in (
       search needs,
       marked .set-mark .kept .0 ∙ turn c .before .loop .inv .1,
       prepared-more _ _ _ _ _ (turn c .before .loop .inv .2) (turn c .loop-test .taken) (marked .before .start-mark .ensures) (marked .set-mark .ensures) (moved .before .start-move .ensures) (moved .record-move .ensures) refl,

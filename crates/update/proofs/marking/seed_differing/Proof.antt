@@ -53,13 +53,12 @@ loop-again c =
     let i = c .before .before in
     let long = entry (i .before .before) .pre .long in
     let now = i .before .loop .inv .1 in
-    let tells = c .before .differs .ensures in
-    (
+    let tells = c .before .differs .ensures in (
       search needs,
       ⊎-elim
-      (λ w. seeding-one _ _ _ long now (w .5) (w .6) (tells .holds (w .0 .taken)) (w .2 .ensures))
-      (λ w. seeding-skip _ _ _ long now (w .1) (w .2) (tells .fails (w .0 .left)))
-      (c .if1 .came),
+          (λ w. seeding-one _ _ _ long now (w .5) (w .6) (tells .holds (w .0 .taken)) (w .2 .ensures))
+          (λ w. seeding-skip _ _ _ long now (w .1) (w .2) (tells .fails (w .0 .left)))
+          (c .if1 .came),
     )
 
 -- src/marking.rt:12:1
