@@ -1,6 +1,6 @@
 -- Copying the closure's marks: one cell more at each vertex.
 use Prim.Native.Nat.{ℕ, _+_, _*_, _<_, _≤_}
-use mathlib.Core.Path.{_≡_, subst, _∙_}
+use mathlib.Core.Path.{_≡_, _∙_}
 use mathlib.Core.List.{List}
 use native.Mathlib.Nat.{not-suc-le-zero}
 use native.Mathlib.Omega.{arith}
@@ -9,7 +9,7 @@ use lib.ListN.{length, getD, set}
 use lib.Seq.{getD-set-same, getD-set-other}
 use Rattle.reach.specs.Work.{section}
 use Rattle.reach.proofs.Sections.{section-read}
-use Rattle.update.specs.Marking.{Copyable, Copied, Flags}
+use Rattle.update.specs.Marking.{Copied, Flags}
 
 pub copied-none : {n : ℕ} {work marks : List ℕ} → Copied n work marks 0
 copied-none = record { same = λ u l. absurd (not-suc-le-zero l) }

@@ -2,7 +2,7 @@
 use Prim.Native.Nat.{ℕ}
 use mathlib.Core.Path.{_≡_}
 use mathlib.Core.Logic.{Dec·not-not}
-use mathlib.Core.List.{List, List-discrete}
+use mathlib.Core.List.{List-discrete}
 use native.Mathlib.Decide.{ℕ-discrete}
 use Rattle.game.specs.Game.{Game}
 use Rattle.justification.specs.Start.{Agree}

@@ -1,7 +1,7 @@
 -- The number of vertices with a property: there is one such number, and flags of the property count it.
-use Prim.Native.Nat.{ℕ, zero, suc, min, _+_, _<_, _≤_}
+use Prim.Native.Nat.{ℕ, zero, suc, min, _+_, _<_}
 use mathlib.Core.Path.{_≡_, refl, ap, subst}
-use mathlib.Core.Logic.{_≢_, _↔_}
+use mathlib.Core.Logic.{_↔_}
 use mathlib.Core.List.{List}
 use native.Mathlib.Decide.{ℕ-discrete}
 use native.Mathlib.Nat.{lt-suc-self}

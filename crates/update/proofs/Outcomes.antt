@@ -1,17 +1,15 @@
 -- The update's outcomes: refused by a test before the checker's, refused by the checker, or done.
 use Prim.Native.Nat.{ℕ, _<_}
 use mathlib.Core.Path.{_≡_, refl, sym, subst, _∙_}
-use mathlib.Core.List.{List, [], _∷_}
+use mathlib.Core.List.{List}
 use lib.ListN.{length, getD}
 use Rattle.refusal.specs.declared.Refusal.{Refusal}
 use Rattle.refusal.specs.Found.{saidOf}
-use Rattle.refusal.specs.Number.{numberOf}
-use Rattle.refusal.specs.Row.{None, First, Gives}
+use Rattle.refusal.specs.Row.{None, Gives}
 use Rattle.game.specs.declared.tables.Tables.{Tables}
 use Rattle.game.specs.declared.tables.Tables.the-variants as tables
 use Rattle.game.specs.Tables.{WellFormed}
 use Rattle.game.specs.Answer.{tablesSaid}
-use Rattle.game.specs.Buffers.{Zeroed}
 use Rattle.game.proofs.Stores.{room-is}
 use Rattle.game.proofs.WellFormed.{well-formed}
 use Rattle.checker.specs.declared.Verdict.{Verdict}

@@ -1,11 +1,11 @@
 -- The engine's start, one line more at each vertex.
-use Prim.Native.Nat.{ℕ, _+_, _*_, _<_, _≤_}
+use Prim.Native.Nat.{ℕ, _+_, _<_, _≤_}
 use mathlib.Core.Path.{_≡_, sym, ap, subst, _∙_}
 use mathlib.Core.List.{List}
 use native.Mathlib.Nat.{not-suc-le-zero}
 use native.Mathlib.Omega.{arith}
 use borrow.Author.Count.{below-more}
-use lib.ListN.{length, getD, set}
+use lib.ListN.{getD, set}
 use lib.Seq.{getD-set-same, getD-set-other}
 use Rattle.player.specs.Player.{parityOf}
 use Rattle.game.specs.Answer.{markOf, moveOf, MarkSet, MoveSet}

@@ -9,7 +9,7 @@ use Rattle.winning.specs.Walk.{Walk, stay, step}
 use Rattle.winning.proofs.Edges.{decide-edge}
 use Rattle.winning.proofs.Reachable.{decide-walk}
 use Rattle.winning.proofs.Reflect.{tests-decide, tests-dec, tests-map}
-use Rattle.winning.proofs.Search.{Below, tests-some}
+use Rattle.winning.proofs.Search.{tests-some}
 use Rattle.justification.specs.Start.{Agree, Closed}
 use Rattle.update.specs.Amended.{Differs, Reaches, Number}
 use Rattle.update.proofs.Differing.{decide-differs, agree-of}

@@ -11,10 +11,10 @@ use Rattle.refusal.specs.declared.Refusal.{Refusal}
 use Rattle.refusal.specs.declared.Found.{Found}
 use Rattle.refusal.specs.declared.Found.the-variants.{At, Nowhere}
 use Rattle.refusal.specs.Number.{numberOf}
-use Rattle.refusal.specs.Row.{Row, NoPlace, None, First, Gives, first-number}
+use Rattle.refusal.specs.Row.{Row, None, First, Gives, first-number}
 use Rattle.refusal.specs.Found.{Finds, found-at, found-nowhere}
 use Rattle.game.specs.declared.tables.Tables.{Tables}
-use Rattle.game.specs.declared.tables.Tables.the-variants.{Passed, Refused}
+use Rattle.game.specs.declared.tables.Tables.the-variants.{Refused}
 use Rattle.game.specs.Answer.{tablesSaid}
 use Rattle.game.specs.Buffers.{Zeroed}
 use Rattle.update.specs.Updating.{Input, updateRows, Refuses}

@@ -7,9 +7,8 @@ use native.Mathlib.Nat.{not-suc-le-zero}
 use native.Mathlib.Omega.{arith}
 use borrow.Author.Count.{below-more}
 use lib.ListN.{length, getD, List·getD-eq-default}
-use Rattle.reach.specs.Work.{section, Beside}
+use Rattle.reach.specs.Work.{section}
 use Rattle.reach.specs.Lists.{Filled}
-use Rattle.reach.specs.Closure.{Queued}
 use Rattle.reach.specs.Queue.{SeedableIn, PushedIn}
 use Rattle.reach.proofs.Sections.{beside-none, beside-more, section-long, section-filled}
 use Rattle.reach.proofs.Queues.{filled-queued, pushed-queued}

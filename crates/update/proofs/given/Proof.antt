@@ -5,22 +5,16 @@ use native.Mathlib.Omega.{arith}
 use borrow.Author.Needs.{needs}
 use Rattle.update.proofs.given.Statement.{statement}
 use Rattle.update.proofs.given.Tie as tie
-use Rattle.update.proofs.given.Reads as reads
-use Rattle.update.proofs.given.Lts as lts
 
--- src/lib.rt:91:26
 enum-known-verdict : tie.Need-enum-known-verdict
 enum-known-verdict c = search needs
 
--- src/lib.rt:92:9
 enum-told : tie.Need-enum-told
 enum-told c = search needs
 
--- src/lib.rt:92:9
 returns : tie.Need-returns
 returns c = λ q e. let z : _≡_ {A = ℕ} 0 1 = cc (c .enum-told .given .1) in absurd (omega arith)
 
--- src/lib.rt:88:1
 returns-2 : tie.Need-returns-2
 returns-2 c = λ q e. cc (c .before .verdict .given .1)
 

@@ -8,12 +8,6 @@ use Rattle.update.specs.Redoing.{Redoable}
 use Rattle.update.proofs.Redoings.{building-asks, marking-asks, deciding-asks, redone}
 use Rattle.update.proofs.redo.Statement.{statement}
 use Rattle.update.proofs.redo.Tie as tie
-use Rattle.update.proofs.redo.Reads as reads
-use Rattle.update.proofs.redo.Lts as lts
-use Rattle.reach.proofs.cells.fill.Reads as fill-reads
-use Rattle.reach.proofs.lists.predecessors.Reads as predecessors-reads
-use Rattle.update.proofs.deciding.decide.Reads as decide-reads
-use Rattle.update.proofs.marking.mark_reaching.Reads as mark-reaching-reads
 
 -- the way back from each call to the one before it
 abbrev entry : tie.After-sources → tie.Start
@@ -38,80 +32,61 @@ asked c = entry (built c .before) .pre
 marks-long : (c : tie.After-mark-reaching) → length (c .mark-reaching .last .1 .1 .1 .1 .1 .1 .1 .1 .1 .1 .1 .1 .0) ≡ 2048
 marks-long c = c .mark-reaching .kept .1 .1 .1 .1 .1 .1 .1 .1 .1 .1 .1 .1 .0
 
--- src/lib.rt:49:52
 slice-aggregate-predecessors : tie.Need-slice-aggregate-predecessors
 slice-aggregate-predecessors c = search needs
 
--- src/lib.rt:49:64
 slice-aggregate-predecessors-2 : tie.Need-slice-aggregate-predecessors-2
 slice-aggregate-predecessors-2 c = search needs
 
--- src/lib.rt:49:76
 slice-aggregate-predecessors-3 : tie.Need-slice-aggregate-predecessors-3
 slice-aggregate-predecessors-3 c = search needs
 
--- src/lib.rt:49:5
 predecessors-requires : tie.Need-predecessors-requires
 predecessors-requires c κs = building-asks _ (entry c .pre) refl refl refl
 
--- src/lib.rt:51:5
 fill-requires : tie.Need-fill-requires
 fill-requires c κs = search needs
 
--- src/lib.rt:61:9
 slice-aggregate-mark-reaching : tie.Need-slice-aggregate-mark-reaching
 slice-aggregate-mark-reaching c = search needs
 
--- src/lib.rt:62:9
 slice-aggregate-mark-reaching-2 : tie.Need-slice-aggregate-mark-reaching-2
 slice-aggregate-mark-reaching-2 c = search needs
 
--- src/lib.rt:63:9
 slice-aggregate-mark-reaching-3 : tie.Need-slice-aggregate-mark-reaching-3
 slice-aggregate-mark-reaching-3 c = search needs
 
--- src/lib.rt:65:9
 slice-aggregate-mark-reaching-4 : tie.Need-slice-aggregate-mark-reaching-4
 slice-aggregate-mark-reaching-4 c = search needs
 
--- src/lib.rt:52:9
 mark-reaching-requires : tie.Need-mark-reaching-requires
 mark-reaching-requires c κs = marking-asks _ (asked (filled c)) (built (filled c) .predecessors .ensures) (filled c .fill .ensures .0) (filled c .fill .ensures .1) refl
 
--- src/lib.rt:73:9
 slice-aggregate-decide : tie.Need-slice-aggregate-decide
 slice-aggregate-decide c = search needs
 
--- src/lib.rt:74:9
 slice-aggregate-decide-2 : tie.Need-slice-aggregate-decide-2
 slice-aggregate-decide-2 c = search needs
 
--- src/lib.rt:75:9
 slice-aggregate-decide-3 : tie.Need-slice-aggregate-decide-3
 slice-aggregate-decide-3 c = search needs
 
--- src/lib.rt:78:9
 slice-aggregate-decide-4 : tie.Need-slice-aggregate-decide-4
 slice-aggregate-decide-4 c = search needs
 
--- src/lib.rt:68:5
 decide-requires : tie.Need-decide-requires
 decide-requires c κs =
     deciding-asks _ (asked (filled (marked c .before))) (built (filled (marked c .before)) .predecessors .ensures) (filled (marked c .before) .fill .ensures .0) (filled (marked c .before) .fill .ensures .1) (marked c .mark-reaching .ensures) (marks-long (marked c))
 
--- src/lib.rt:27:1
 same-length : tie.Need-same-length
 same-length c = search needs
 
--- src/lib.rt:27:1
 same-length-2 : tie.Need-same-length-2
 same-length-2 c = decided c .decide .ensures .moves-long ∙ filled (marked (decided c .before) .before) .fill .ensures .0
 
--- src/lib.rt:27:1
 same-length-3 : tie.Need-same-length-3
 same-length-3 c = search needs
 
--- src/lib.rt:27:1
 returns : tie.Need-returns
 returns c =
     redone _ (asked (filled (marked (decided c .before) .before))) (built (filled (marked (decided c .before) .before)) .predecessors .ensures) (filled (marked (decided c .before) .before) .fill .ensures .0) (filled (marked (decided c .before) .before) .fill .ensures .1) (marked (decided c .before) .mark-reaching .ensures) (decided c .decide .ensures)

@@ -10,10 +10,6 @@ use Rattle.checker.proofs.Says.{says-yes, says-no}
 use Rattle.update.proofs.Differing.{same-of}
 use Rattle.update.proofs.compare.differs.Statement.{statement}
 use Rattle.update.proofs.compare.differs.Tie as tie
-use Rattle.update.proofs.compare.differs.Reads as reads
-use Rattle.update.proofs.compare.differs.Lts as lts
-use Rattle.game.proofs.vertex.successors.Reads as successors-reads
-use Rattle.update.proofs.compare.same_stretch.Reads as same-stretch-reads
 
 abbrev start : tie.Else2 → tie.Start
 start c = c .before .before .before .before .before .before .before .before .before .before .before .before .before .before
@@ -22,48 +18,37 @@ start c = c .before .before .before .before .before .before .before .before .bef
 same : (c : tie.After-successors2) → now (c .before .successors .result) ≡ now (c .successors2 .result) → nextOf (now (start (c .before .before) .args .starts)) (now (start (c .before .before) .args .targets)) (start (c .before .before) .args .v) ≡ nextOf (now (start (c .before .before) .args .starts2)) (now (start (c .before .before) .args .targets2)) (start (c .before .before) .args .v)
 same c e = sym (c .before .successors .ensures) ∙ e ∙ c .successors2 .ensures
 
--- src/compare.rt:43:8
 shared-slice-read-if1 : tie.Need-shared-slice-read-if1
 shared-slice-read-if1 c = search needs
 
--- src/compare.rt:43:21
 shared-slice-read-if1-2 : tie.Need-shared-slice-read-if1-2
 shared-slice-read-if1-2 c = search needs
 
--- src/compare.rt:44:9
 returns : tie.Need-returns
 returns c = says-yes (owner (c .if1 .taken))
 
--- src/compare.rt:46:8
 shared-slice-read-if2 : tie.Need-shared-slice-read-if2
 shared-slice-read-if2 c = search needs
 
--- src/compare.rt:46:25
 shared-slice-read-if2-2 : tie.Need-shared-slice-read-if2-2
 shared-slice-read-if2-2 c = search needs
 
--- src/compare.rt:47:9
 returns-2 : tie.Need-returns-2
 returns-2 c = says-yes (priority (c .if2 .taken))
 
--- src/compare.rt:49:21
 successors-requires : tie.Need-successors-requires
 successors-requires c κs = stretch-of _ _ _ (start c .pre .1 .first .placed) _ (start c .pre .0)
 
--- src/compare.rt:49:53
 successors-requires-2 : tie.Need-successors-requires-2
 successors-requires-2 c κs = stretch-of _ _ _ (start (c .before) .pre .1 .second .placed) _ (subst (λ (n : ℕ). start (c .before) .args .v < n) (start (c .before) .pre .1 .size) (start (c .before) .pre .0))
 
--- src/compare.rt:49:8
 same-stretch-requires : tie.Need-same-stretch-requires
 same-stretch-requires c κs = search needs
 
--- src/compare.rt:50:9
 returns-3 : tie.Need-returns-3
 returns-3 c =
     says-no (same-of _ _ _ (record { owner = c .before .before .before .before .before .before .before .if1 .left; priority = c .before .before .before .before .if2 .left; next = same (c .before .before) (c .before .same-stretch .ensures .holds (c .if3 .taken)) }))
 
--- src/compare.rt:29:1
 returns-4 : tie.Need-returns-4
 returns-4 c = says-yes (successors (λ e. c .before .same-stretch .ensures .fails (c .if3 .left) (c .before .before .before .successors .ensures ∙ e ∙ sym (c .before .before .successors2 .ensures))))
 

@@ -1,3 +1,4 @@
+-- The loop's invariant: the numbers passed are equal in both stretches; lists of one length with equal numbers are equal.
 use Prim.Native.Nat.{ℕ, _≤_, _<_, _-_}
 use mathlib.Core.Path.{_≡_, sym, ap}
 use mathlib.Core.List.{List}
@@ -10,8 +11,6 @@ use lib.Seq.{ext-getD}
 use Rattle.checker.proofs.Says.{says-yes, says-no}
 use Rattle.update.proofs.compare.same_stretch.Statement.{statement}
 use Rattle.update.proofs.compare.same_stretch.Tie as tie
-use Rattle.update.proofs.compare.same_stretch.Reads as reads
-use Rattle.update.proofs.compare.same_stretch.Lts as lts
 
 abbrev Inv-loop : tie.InvT-loop
 Inv-loop a b n i₀ i = (i ≤ n) × ((k : ℕ) → k < i → getD a k 0 ≡ getD b k 0)
@@ -19,47 +18,36 @@ Inv-loop a b n i₀ i = (i ≤ n) × ((k : ℕ) → k < i → getD a k 0 ≡ get
 abbrev μ-loop : tie.MeasureT-loop
 μ-loop a b n i₀ i = n - i
 
--- src/compare.rt:16:9
 returns : tie.Need-returns Inv-loop μ-loop
 returns c = says-no (λ e. c .if1 .taken (sym (ap length e)))
 
--- src/compare.rt:19:5
 loop-holds : tie.Need-loop-holds Inv-loop μ-loop
 loop-holds c = (search needs, λ k l. absurd (not-suc-le-zero l))
 
--- src/compare.rt:20:12
 mul-if2 : tie.Need-mul-if2 Inv-loop μ-loop
 mul-if2 c = search needs
 
--- src/compare.rt:20:12
 shared-slice-read-if2 : tie.Need-shared-slice-read-if2 Inv-loop μ-loop
 shared-slice-read-if2 c = search needs
 
--- src/compare.rt:20:20
 mul-if2-2 : tie.Need-mul-if2-2 Inv-loop μ-loop
 mul-if2-2 c = search needs
 
--- src/compare.rt:20:20
 shared-slice-read-if2-2 : tie.Need-shared-slice-read-if2-2 Inv-loop μ-loop
 shared-slice-read-if2-2 c = search needs
 
--- src/compare.rt:21:13
 returns-2 : tie.Need-returns-2 Inv-loop μ-loop
 returns-2 c = says-no (λ e. c .if2 .taken (ap (λ (l : List ℕ). getD l (c .before .before .before .before .loop .i) 0) e))
 
--- src/compare.rt:23:9
 add-i : tie.Need-add-i Inv-loop μ-loop
 add-i c = search needs
 
--- src/compare.rt:19:5
 loop-less : tie.Need-loop-less Inv-loop μ-loop
 loop-less c = search needs
 
--- src/compare.rt:19:5
 loop-again : tie.Need-loop-again Inv-loop μ-loop
 loop-again c = (search needs, below-more _ _ (c .before .before .before .before .loop .inv .1) (c .if2 .left))
 
--- src/compare.rt:11:1
 returns-3 : tie.Need-returns-3 Inv-loop μ-loop
 returns-3 c = says-yes (ext-getD 0 _ _ (search needs) (λ i l. c .before .loop .inv .1 i (omega arith)))
 

@@ -3,42 +3,30 @@ use borrow.Author.Needs.{needs}
 use Rattle.update.proofs.Anew.{settling-asks, decided-anew}
 use Rattle.update.proofs.deciding.decide.Statement.{statement}
 use Rattle.update.proofs.deciding.decide.Tie as tie
-use Rattle.update.proofs.deciding.decide.Reads as reads
-use Rattle.update.proofs.deciding.decide.Lts as lts
-use Rattle.reach.proofs.cells.fill.Reads as fill-reads
-use Rattle.solver.proofs.settle.settle.Reads as settle-reads
-use Rattle.update.proofs.deciding.prepare.Reads as prepare-reads
 
 abbrev entry : tie.After-prepare-arg3 → tie.Start
 entry c = c .before .before .before .before .before .before .before .before .before .before .before .before .before .before .before .before
 
--- src/deciding.rt:79:5
 prepare-requires : tie.Need-prepare-requires
 prepare-requires c κs = search needs
 
--- src/deciding.rt:80:5
 settle-requires : tie.Need-settle-requires
 settle-requires c κs =
     let prepared = c .before .before .before .before .before .before .before .before .before in
     settling-asks _ _ _ _ _ _ _ _ _ _ _ _ _ (entry (prepared .before) .pre) (prepared .prepare .ensures)
 
--- src/deciding.rt:81:5
 fill-requires : tie.Need-fill-requires
 fill-requires c κs = search needs
 
--- src/deciding.rt:60:1
 same-length : tie.Need-same-length
 same-length c = search needs
 
--- src/deciding.rt:60:1
 same-length-2 : tie.Need-same-length-2
 same-length-2 c = search needs
 
--- src/deciding.rt:60:1
 same-length-3 : tie.Need-same-length-3
 same-length-3 c = search needs
 
--- src/deciding.rt:60:1
 returns : tie.Need-returns
 returns c =
     let filled = c .before .before in

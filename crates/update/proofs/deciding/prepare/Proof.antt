@@ -8,12 +8,6 @@ use Rattle.update.specs.Deciding.{Prepared}
 use Rattle.update.proofs.Preparing.{prepared-none, prepared-more, prepared-all}
 use Rattle.update.proofs.deciding.prepare.Statement.{statement}
 use Rattle.update.proofs.deciding.prepare.Tie as tie
-use Rattle.update.proofs.deciding.prepare.Reads as reads
-use Rattle.update.proofs.deciding.prepare.Lts as lts
-use Rattle.game.proofs.answer.record_move.Reads as record-move-reads
-use Rattle.game.proofs.answer.set_mark.Reads as set-mark-reads
-use Rattle.update.proofs.deciding.start_mark.Reads as start-mark-reads
-use Rattle.update.proofs.deciding.start_move.Reads as start-move-reads
 
 abbrev Inv-loop : tie.InvT-loop
 Inv-loop n priorities old-winners old-moves marks winners₀ moves₀ work₀ v₀ winners moves work v =
@@ -29,22 +23,18 @@ entry c = c .before .before .before .before .before .before .before
 abbrev turn : tie.After-shared-slice-known5 Inv-loop μ-loop → tie.In-loop Inv-loop μ-loop
 turn c = c .before .before .before .before .before .before .before .before .before .before .before
 
--- src/deciding.rt:49:5
 loop-holds : tie.Need-loop-holds Inv-loop μ-loop
 loop-holds c = (search needs, search needs, prepared-none _ _ _ _ _ (entry c .pre))
 
--- src/deciding.rt:50:30
 start-mark-requires : tie.Need-start-mark-requires Inv-loop μ-loop
 start-mark-requires c κs =
     let p = entry (c .before .before .before) .pre in
     let l = c .before .loop-test .taken in
     (omega (arith, p .priorities-long), omega (arith, p .old-winners-room), omega (arith, p .marks-room))
 
--- src/deciding.rt:50:9
 set-mark-requires : tie.Need-set-mark-requires Inv-loop μ-loop
 set-mark-requires c κs = omega (arith, c .before .before .before .loop .inv .2 .winners-room)
 
--- src/deciding.rt:51:31
 start-move-requires : tie.Need-start-move-requires Inv-loop μ-loop
 start-move-requires c κs =
     let i = c .before .before .before .before .before .before in
@@ -52,35 +42,27 @@ start-move-requires c κs =
     let l = i .loop-test .taken in
     (omega (arith, p .old-moves-long), omega (arith, p .marks-room))
 
--- src/deciding.rt:51:9
 record-move-requires : tie.Need-record-move-requires Inv-loop μ-loop
 record-move-requires c κs = omega (arith, c .before .before .before .before .before .before .before .before .loop .inv .2 .moves-long)
 
--- src/deciding.rt:52:19
 shared-slice-read-work : tie.Need-shared-slice-read-work Inv-loop μ-loop
 shared-slice-read-work c = search needs
 
--- src/deciding.rt:52:19
 cast-work : tie.Need-cast-work Inv-loop μ-loop
 cast-work c = omega (arith, c .shared-slice-known5 .given (turn c .before .loop .v))
 
--- src/deciding.rt:52:9
 mul-work : tie.Need-mul-work Inv-loop μ-loop
 mul-work c = search needs
 
--- src/deciding.rt:52:9
 slice-write-work : tie.Need-slice-write-work Inv-loop μ-loop
 slice-write-work c = search needs
 
--- src/deciding.rt:53:9
 add-v : tie.Need-add-v Inv-loop μ-loop
 add-v c = search needs
 
--- src/deciding.rt:49:5
 loop-less : tie.Need-loop-less Inv-loop μ-loop
 loop-less c = search needs
 
--- src/deciding.rt:49:5
 loop-again : tie.Need-loop-again Inv-loop μ-loop
 loop-again c =
     let moved = c .before .before .before in
@@ -90,19 +72,15 @@ loop-again c =
       prepared-more _ _ _ _ _ (turn c .before .loop .inv .2) (turn c .loop-test .taken) (marked .before .start-mark .ensures) (marked .set-mark .ensures) (moved .before .start-move .ensures) (moved .record-move .ensures) refl,
     )
 
--- src/deciding.rt:35:1
 same-length : tie.Need-same-length Inv-loop μ-loop
 same-length c = search needs
 
--- src/deciding.rt:35:1
 same-length-2 : tie.Need-same-length-2 Inv-loop μ-loop
 same-length-2 c = search needs
 
--- src/deciding.rt:35:1
 same-length-3 : tie.Need-same-length-3 Inv-loop μ-loop
 same-length-3 c = search needs
 
--- src/deciding.rt:35:1
 returns : tie.Need-returns Inv-loop μ-loop
 returns c = prepared-all _ _ _ _ _ (search needs) (c .before .loop .inv .2)
 

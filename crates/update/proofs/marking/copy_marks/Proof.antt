@@ -9,8 +9,6 @@ use Rattle.update.specs.Marking.{Copied}
 use Rattle.update.proofs.Copies.{copied-none, copied-more, copied-all, mark-read}
 use Rattle.update.proofs.marking.copy_marks.Statement.{statement}
 use Rattle.update.proofs.marking.copy_marks.Tie as tie
-use Rattle.update.proofs.marking.copy_marks.Reads as reads
-use Rattle.update.proofs.marking.copy_marks.Lts as lts
 
 abbrev Inv-loop : tie.InvT-loop
 Inv-loop n work marks₀ v₀ marks v = (v ≤ n) × (length marks ≡ length marks₀) × Copied n work marks v
@@ -18,49 +16,38 @@ Inv-loop n work marks₀ v₀ marks v = (v ≤ n) × (length marks ≡ length ma
 abbrev μ-loop : tie.MeasureT-loop
 μ-loop n work marks₀ v₀ marks v = n - v
 
--- src/marking.rt:54:5
 loop-holds : tie.Need-loop-holds Inv-loop μ-loop
 loop-holds c = (search needs, search needs, copied-none)
 
--- src/marking.rt:55:25
 add-marks : tie.Need-add-marks Inv-loop μ-loop
 add-marks c = search needs
 
--- src/marking.rt:55:20
 mul-marks : tie.Need-mul-marks Inv-loop μ-loop
 mul-marks c = search needs
 
--- src/marking.rt:55:20
 shared-slice-read-marks : tie.Need-shared-slice-read-marks Inv-loop μ-loop
 shared-slice-read-marks c = search needs
 
--- src/marking.rt:55:20
 cast-marks : tie.Need-cast-marks Inv-loop μ-loop
 cast-marks c =
     let l : c .before .before .loop .v < c .before .before .before .args .n = search needs in
     omega (arith, mark-read (c .before .before .before .args .n) (now (c .before .before .before .args .work)) (c .before .before .before .pre .long) (c .before .before .loop .v) l, c .before .before .before .pre .flag (c .before .before .loop .v) l)
 
--- src/marking.rt:55:9
 slice-write-marks : tie.Need-slice-write-marks Inv-loop μ-loop
 slice-write-marks c = search needs
 
--- src/marking.rt:56:9
 add-v : tie.Need-add-v Inv-loop μ-loop
 add-v c = search needs
 
--- src/marking.rt:54:5
 loop-less : tie.Need-loop-less Inv-loop μ-loop
 loop-less c = search needs
 
--- src/marking.rt:54:5
 loop-again : tie.Need-loop-again Inv-loop μ-loop
 loop-again c = (search needs, search needs, copied-more _ _ (c .before .before .before .pre .long) _ (search needs) (search needs) (c .before .before .loop .inv .2))
 
--- src/marking.rt:49:1
 same-length : tie.Need-same-length Inv-loop μ-loop
 same-length c = search needs
 
--- src/marking.rt:49:1
 returns : tie.Need-returns Inv-loop μ-loop
 returns c = copied-all (search needs) (c .before .loop .inv .2)
 

@@ -3,44 +3,31 @@ use borrow.Author.Needs.{needs}
 use Rattle.update.proofs.Marks.{closing-asks, copying-asks, marked}
 use Rattle.update.proofs.marking.mark_reaching.Statement.{statement}
 use Rattle.update.proofs.marking.mark_reaching.Tie as tie
-use Rattle.update.proofs.marking.mark_reaching.Reads as reads
-use Rattle.update.proofs.marking.mark_reaching.Lts as lts
-use Rattle.reach.proofs.cells.fill.Reads as fill-reads
-use Rattle.reach.proofs.closure.close.Reads as close-reads
-use Rattle.update.proofs.marking.copy_marks.Reads as copy-marks-reads
-use Rattle.update.proofs.marking.seed_differing.Reads as seed-differing-reads
 
 abbrev entry : tie.After-seed-differing-arg → tie.Start
 entry c = c .before .before .before .before .before .before .before .before .before .before .before .before .before .before .before
 
--- src/marking.rt:81:9
 seed-differing-requires : tie.Need-seed-differing-requires
 seed-differing-requires c κs = search needs
 
--- src/marking.rt:92:9
 close-requires : tie.Need-close-requires
 close-requires c κs = closing-asks _ _ _ _ _ _ _ _ _ _ _ _ _ _ (entry (c .before .before .before .before) .pre) (c .before .before .before .seed-differing .ensures)
 
--- src/marking.rt:93:5
 copy-marks-requires : tie.Need-copy-marks-requires
 copy-marks-requires c κs =
     let closed = c .before .before .before .before in
     let seeded = closed .before .before .before .before in
     copying-asks _ _ _ _ _ _ _ _ _ _ _ _ _ _ (entry (seeded .before) .pre) (seeded .seed-differing .ensures) (closed .close .ensures)
 
--- src/marking.rt:94:5
 fill-requires : tie.Need-fill-requires
 fill-requires c κs = search needs
 
--- src/marking.rt:61:1
 same-length : tie.Need-same-length
 same-length c = search needs
 
--- src/marking.rt:61:1
 same-length-2 : tie.Need-same-length-2
 same-length-2 c = search needs
 
--- src/marking.rt:61:1
 returns : tie.Need-returns
 returns c =
     let filled = c .before .before in

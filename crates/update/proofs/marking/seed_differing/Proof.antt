@@ -9,10 +9,6 @@ use Rattle.update.specs.Marking.{Seeding}
 use Rattle.update.proofs.Seeds.{seeding-none, seeding-one, seeding-skip, seeding-asks, seeding-all}
 use Rattle.update.proofs.marking.seed_differing.Statement.{statement}
 use Rattle.update.proofs.marking.seed_differing.Tie as tie
-use Rattle.update.proofs.marking.seed_differing.Reads as reads
-use Rattle.update.proofs.marking.seed_differing.Lts as lts
-use Rattle.reach.proofs.closure.seed.Reads as seed-reads
-use Rattle.update.proofs.compare.differs.Reads as differs-reads
 
 abbrev Inv-loop : tie.InvT-loop
 Inv-loop owners priorities starts targets owners2 priorities2 starts2 targets2 work₀ n tail₀ v₀ work tail v =
@@ -25,29 +21,23 @@ abbrev μ-loop : tie.MeasureT-loop
 abbrev entry : tie.After-slice-known Inv-loop μ-loop → tie.Start Inv-loop μ-loop
 entry c = c .before .before .before .before .before .before .before .before .before
 
--- src/marking.rt:29:5
 loop-holds : tie.Need-loop-holds Inv-loop μ-loop
 loop-holds c = (search needs, seeding-none _ _ _ (entry c .pre .long) (entry c .pre .blank))
 
--- src/marking.rt:30:12
 differs-requires : tie.Need-differs-requires Inv-loop μ-loop
 differs-requires c κs = (omega (arith, entry (c .before .before) .pre .paired .size), entry (c .before .before) .pre .paired)
 
--- src/marking.rt:41:13
 seed-requires : tie.Need-seed-requires Inv-loop μ-loop
 seed-requires c κs =
     let i = c .before .before .before in
     seeding-asks _ _ _ (entry (i .before .before) .pre .long) (i .before .loop .inv .1) (entry (i .before .before) .pre .paired .second .sound .few) (i .loop-test .taken)
 
--- src/marking.rt:43:9
 add-v : tie.Need-add-v Inv-loop μ-loop
 add-v c = search needs
 
--- src/marking.rt:29:5
 loop-less : tie.Need-loop-less Inv-loop μ-loop
 loop-less c = search needs
 
--- src/marking.rt:29:5
 loop-again : tie.Need-loop-again Inv-loop μ-loop
 loop-again c =
     let i = c .before .before in
@@ -61,11 +51,9 @@ loop-again c =
           (c .if1 .came),
     )
 
--- src/marking.rt:12:1
 same-length : tie.Need-same-length Inv-loop μ-loop
 same-length c = search needs
 
--- src/marking.rt:12:1
 returns : tie.Need-returns Inv-loop μ-loop
 returns c = seeding-all (search needs) (c .before .loop .inv .1)
 

@@ -6,34 +6,25 @@ use Rattle.update.specs.Updating.{old-winners-long, old-moves-long, winn
 use Rattle.update.proofs.Lengths.{none-of-lent}
 use Rattle.update.proofs.refuse.lent_lengths.Statement.{statement}
 use Rattle.update.proofs.refuse.lent_lengths.Tie as tie
-use Rattle.update.proofs.refuse.lent_lengths.Reads as reads
-use Rattle.update.proofs.refuse.lent_lengths.Lts as lts
 
--- src/refuse.rt:39:9
 returns : tie.Need-returns
 returns c = scan-found scan-none (old-winners-long refl (c .if1 .taken))
 
--- src/refuse.rt:42:9
 returns-2 : tie.Need-returns-2
 returns-2 c = scan-found scan-none (old-moves-long refl (c .if2 .taken))
 
--- src/refuse.rt:45:9
 returns-3 : tie.Need-returns-3
 returns-3 c = scan-found scan-none (winners-long refl (c .if3 .taken))
 
--- src/refuse.rt:48:9
 returns-4 : tie.Need-returns-4
 returns-4 c = scan-found scan-none (moves-long refl (c .if4 .taken))
 
--- src/refuse.rt:50:16
 mul-if5 : tie.Need-mul-if5
 mul-if5 c = search needs
 
--- src/refuse.rt:51:9
 returns-5 : tie.Need-returns-5
 returns-5 c = scan-found scan-none (work-long refl (c .if5 .taken))
 
--- src/refuse.rt:27:1
 returns-6 : tie.Need-returns-6
 returns-6 c = none-of-lent _ _ _ _ _ _ (search needs)
 

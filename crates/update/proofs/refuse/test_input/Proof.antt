@@ -8,12 +8,6 @@ use Rattle.game.proofs.Sizes.{fitting-of-none}
 use Rattle.update.proofs.Refusals.{fails-first, fails-second, fails-9, fails-8, passes}
 use Rattle.update.proofs.refuse.test_input.Statement.{statement}
 use Rattle.update.proofs.refuse.test_input.Tie as tie
-use Rattle.update.proofs.refuse.test_input.Reads as reads
-use Rattle.update.proofs.refuse.test_input.Lts as lts
-use Rattle.game.proofs.tables.test_tables.Reads as test-tables-reads
-use Rattle.update.proofs.refuse.lent_lengths.Reads as lent-lengths-reads
-use Rattle.update.proofs.refuse.refused.Reads as refused-reads
-use Rattle.update.proofs.refuse.second.Reads as second-reads
 
 -- the rows of a game that has passed, and the way back to the first game's
 abbrev start1 : tie.After-enum-told → tie.Start
@@ -31,61 +25,48 @@ none2 c = tables-passed _ (c .enum-told2 .given .1) (c .before .before .test-tab
 test-tables-requires : tie.Need-test-tables-requires
 test-tables-requires c κs = search needs
 
--- src/refuse.rt:84:28
 enum-known-first : tie.Need-enum-known-first
 enum-known-first c = search needs
 
--- src/refuse.rt:85:9
 returns : tie.Need-returns
 returns c = fails-first _ (c .before .first .given .1) (c .before .before .before .test-tables .ensures)
 
 enum-told : tie.Need-enum-told
 enum-told c = search needs
 
--- src/refuse.rt:87:9
 test-tables-requires-2 : tie.Need-test-tables-requires-2
 test-tables-requires-2 c κs = search needs
 
--- src/refuse.rt:88:28
 enum-known-amended : tie.Need-enum-known-amended
 enum-known-amended c = search needs
 
--- src/refuse.rt:90:24
 second-requires : tie.Need-second-requires
 second-requires c κs = search needs
 
--- src/refuse.rt:90:9
 refused-requires : tie.Need-refused-requires
 refused-requires c κs = search needs
 
--- src/refuse.rt:90:9
 returns-2 : tie.Need-returns-2
 returns-2 c = fails-second _ (none1 (c .before .before .before .before .before .before)) (c .before .before .before .amended .given .1) (c .before .before .before .before .before .test-tables2 .ensures) (c .before .second .ensures) (c .refused .ensures)
 
 enum-told-2 : tie.Need-enum-told-2
 enum-told-2 c = search needs
 
--- src/refuse.rt:93:9
 refused-requires-2 : tie.Need-refused-requires-2
 refused-requires-2 c κs = search needs
 
--- src/refuse.rt:93:9
 returns-3 : tie.Need-returns-3
 returns-3 c = fails-9 _ (none1 (second-of (c .before .before))) (none2 (c .before .before)) (c .before .if1 .taken) (c .refused2 .ensures)
 
--- src/refuse.rt:95:9
 lent-lengths-requires : tie.Need-lent-lengths-requires
 lent-lengths-requires c κs = fitting-of-none _ _ _ _ (none1 (second-of (c .before)) .0) .few
 
--- src/refuse.rt:103:22
 enum-known-lent : tie.Need-enum-known-lent
 enum-known-lent c = search needs
 
--- src/refuse.rt:104:9
 refused-requires-3 : tie.Need-refused-requires-3
 refused-requires-3 c κs = search needs
 
--- src/refuse.rt:104:9
 returns-4 : tie.Need-returns-4
 returns-4 c =
     let e = c .before .before .before .before .before in
@@ -94,7 +75,6 @@ returns-4 c =
 enum-told-3 : tie.Need-enum-told-3
 enum-told-3 c = search needs
 
--- src/refuse.rt:65:1
 returns-5 : tie.Need-returns-5
 returns-5 c =
     let e = c .before .before .before in

@@ -1,0 +1,58 @@
+//! The library's calls, over buffers that are kept from one call to the next.
+
+use crate::ffi;
+use crate::game::{Answer, Tables};
+use crate::said::Said;
+
+pub struct Buffers {
+    winners: Vec<u8>,
+    moves: Vec<u16>,
+    work: Vec<u16>,
+}
+
+impl Buffers {
+    pub fn new(n: usize) -> Self {
+        Buffers { winners: vec![0; n], moves: vec![0; n], work: vec![0; 4 * n] }
+    }
+
+    /// Fills everything with content that no call leaves.
+    pub fn spoil(&mut self) {
+        self.winners.fill(0xA5);
+        self.moves.fill(0xA5A5);
+        self.work.fill(0xA5A5);
+    }
+
+    pub fn answer(&self) -> Answer {
+        Answer { winners: self.winners.clone(), moves: self.moves.clone() }
+    }
+
+    pub fn solve(&mut self, game: &Tables) -> Result<(), String> {
+        succeeded(ffi::solve(game.view(), &mut self.winners, &mut self.moves, &mut self.work))
+            .map(drop)
+    }
+
+    pub fn check(&mut self, game: &Tables, answer: &Answer) -> Result<(), String> {
+        succeeded(ffi::check(game.view(), &answer.winners, &answer.moves, &mut self.work)).map(drop)
+    }
+
+    /// The count.
+    pub fn update(&mut self, first: &Tables, second: &Tables, old: &Answer) -> Result<u64, String> {
+        let Buffers { winners, moves, work } = self;
+        succeeded(ffi::update(
+            first.view(),
+            second.view(),
+            &old.winners,
+            &old.moves,
+            winners,
+            moves,
+            work,
+        ))
+    }
+}
+
+fn succeeded(said: Said) -> Result<u64, String> {
+    match said.number {
+        0 => Ok(said.value),
+        number => Err(format!("refused with {number} at {}", said.value)),
+    }
+}

@@ -1,0 +1,201 @@
+//! The benchmark: the library beside Zielonka's method, the method of source document 000 and a
+//! plain Rust version of the library's own method, on full-size games of every family, all in one
+//! run. Times are milliseconds: of each game the median of several runs, of each family its worst
+//! game.
+
+// What the second program uses of these modules is more than what is used here.
+#[allow(dead_code)]
+#[path = "../tests/second/families.rs"]
+mod families;
+#[allow(dead_code)]
+#[path = "../tests/second/ffi.rs"]
+mod ffi;
+#[allow(dead_code)]
+#[path = "../tests/second/game.rs"]
+mod game;
+#[allow(dead_code)]
+#[path = "../tests/second/judge.rs"]
+mod judge;
+#[allow(dead_code)]
+#[path = "../tests/second/prng.rs"]
+mod prng;
+#[allow(dead_code)]
+#[path = "../tests/second/said.rs"]
+mod said;
+#[allow(dead_code)]
+#[path = "../tests/second/shapes.rs"]
+mod shapes;
+#[allow(dead_code)]
+#[path = "../tests/second/zielonka.rs"]
+mod zielonka;
+
+mod freezing;
+mod justifications;
+mod library;
+mod timing;
+
+use families::Family;
+use game::{Answer, Tables};
+use library::Buffers;
+use prng::Prng;
+use std::process::ExitCode;
+use timing::{median, median_within, Time};
+
+const GAMES: u64 = 3;
+
+const COLUMNS: [&str; 9] = [
+    "family",
+    "solve",
+    "check",
+    "update, few reached",
+    "update, any vertex",
+    "Zielonka",
+    "freezing (000)",
+    "Rust version",
+    "solve / Rust version",
+];
+
+/// What a reader of the table must know.
+const NOTES: &str = "\
+Milliseconds: of three games a family the worst, of each game the median of seven runs.
+Buffers are not cleared: before each run, outside the time, they are filled with other content.
+The Rust version tests the tables (1 to 7) as the library does; the other two methods do not.
+An update changes one vertex's owner: of a vertex that few reach, then of any; in brackets the
+vertices that are decided anew.";
+
+/// One game's times, and for the two updates how many vertices they reach.
+struct Measured {
+    solve: Time,
+    check: Time,
+    few: (Time, u64),
+    any: (Time, u64),
+    zielonka: Time,
+    freezing: Time,
+    rust: Time,
+}
+
+fn main() -> ExitCode {
+    println!("| {} |", COLUMNS.join(" | "));
+    println!("|{}", "---|".repeat(COLUMNS.len()));
+    for family in families::ALL {
+        match row(family) {
+            Ok(row) => println!("{row}"),
+            Err(what) => {
+                println!("{}: {what}", family.name());
+                return ExitCode::FAILURE;
+            }
+        }
+    }
+    println!("\n{NOTES}");
+    ExitCode::SUCCESS
+}
+
+fn row(family: Family) -> Result<String, String> {
+    let mut all = Vec::new();
+    for seed in 0..GAMES {
+        let mut rng = Prng::new(900 + seed);
+        all.push(measure(&family.make(&mut rng), &mut rng)?);
+    }
+    let worst = |time: fn(&Measured) -> Time| all.iter().map(time).fold(Time::ZERO, Time::worse);
+    let worst_update = |update: fn(&Measured) -> (Time, u64)| {
+        all.iter()
+            .map(update)
+            .fold((Time::ZERO, 0), |a, b| if b.0.worse(a.0) == b.0 { b } else { a })
+    };
+    let ratio = all.iter().map(|m| m.solve.over(m.rust)).fold(0.0, f64::max);
+    let (few, any) = (worst_update(|m| m.few), worst_update(|m| m.any));
+    Ok(format!(
+        "| {} | {} | {} | {} ({}) | {} ({}) | {} | {} | {} | {ratio:.1} |",
+        family.name(),
+        worst(|m| m.solve),
+        worst(|m| m.check),
+        few.0,
+        few.1,
+        any.0,
+        any.1,
+        worst(|m| m.zielonka),
+        worst(|m| m.freezing),
+        worst(|m| m.rust),
+    ))
+}
+
+fn measure(game: &Tables, rng: &mut Prng) -> Result<Measured, String> {
+    let mut buffers = Buffers::new(game.n());
+    let solve = median(&mut buffers, Buffers::spoil, |buffers| buffers.solve(game))?;
+    let answer = buffers.answer();
+    right(game, &answer)?;
+    let check = median(&mut buffers, Buffers::spoil, |buffers| buffers.check(game, &answer))?;
+    let seldom = seldom_reached(game, rng);
+    let any = rng.below(game.n());
+    let mut zielonka = None;
+    let mut freezing = None;
+    let mut rust = None;
+    let measured = Measured {
+        solve,
+        check,
+        few: update(&mut buffers, game, &answer, seldom)?,
+        any: update(&mut buffers, game, &answer, any)?,
+        zielonka: median_within(|stop| {
+            zielonka = zielonka::solve_unless(game, stop);
+            zielonka.is_some()
+        }),
+        freezing: median_within(|stop| {
+            freezing = freezing::solve_unless(game, stop);
+            freezing.is_some()
+        }),
+        rust: median_within(|_| {
+            rust = judge::tables(game).is_none().then(|| justifications::solve(game));
+            rust.is_some()
+        }),
+    };
+    // A method that gives other winners is not worth its time.
+    for other in [zielonka, freezing, rust].into_iter().flatten() {
+        right(game, &other)?;
+        if other.winners != answer.winners {
+            return Err("the methods give different winners".to_string());
+        }
+    }
+    Ok(measured)
+}
+
+/// The time of an update that changes v's owner, and its count.
+fn update(
+    buffers: &mut Buffers,
+    game: &Tables,
+    answer: &Answer,
+    v: usize,
+) -> Result<(Time, u64), String> {
+    let second = with_other_owner(game, v);
+    let mut count = 0;
+    let time = median(buffers, Buffers::spoil, |buffers| {
+        count = buffers.update(game, &second, answer)?;
+        Ok(())
+    })?;
+    right(&second, &buffers.answer())?;
+    Ok((time, count))
+}
+
+fn with_other_owner(game: &Tables, v: usize) -> Tables {
+    let mut second = game.clone();
+    second.owners[v] = 1 - second.owners[v];
+    second
+}
+
+fn right(game: &Tables, answer: &Answer) -> Result<(), String> {
+    match judge::answer(game, &answer.winners, &answer.moves) {
+        Some(fault) => Err(format!("a wrong answer: {fault:?}")),
+        None => Ok(()),
+    }
+}
+
+/// Of some vertices the one that the fewest reach.
+fn seldom_reached(game: &Tables, rng: &mut Prng) -> usize {
+    let reaching = |v: usize| {
+        judge::reaching(game, game, &with_other_owner(game, v))
+            .into_iter()
+            .filter(|&reached| reached)
+            .count()
+    };
+    let some: Vec<usize> = (0..200).map(|_| rng.below(game.n())).collect();
+    some.into_iter().min_by_key(|&v| reaching(v)).unwrap_or(0)
+}
