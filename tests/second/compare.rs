@@ -209,7 +209,7 @@ fn expect(said: Said, due: Option<Fault>, value: u64) -> Result<(), String> {
         return Ok(());
     }
     if said == STRAY {
-        return Err("memory beside a slice, or one lent to be read, was changed".to_string());
+        return Err("the call changed memory beside a slice, or one lent to be read".to_string());
     }
     Err(format!(
         "said {} with {}, not {} with {}",

@@ -61,7 +61,7 @@ impl<T: Element> Lent<T> {
             return Ok(());
         }
         self.ends_unchanged(name)?;
-        Err(format!("{name} was changed"))
+        Err(format!("the call changed {name}"))
     }
 
     pub fn ends_unchanged(&self, name: &str) -> Result<(), String> {
@@ -69,7 +69,7 @@ impl<T: Element> Lent<T> {
         if self.whole[..GUARD] == self.entry[..GUARD] && self.whole[end..] == self.entry[end..] {
             return Ok(());
         }
-        Err(format!("memory beside {name} was changed"))
+        Err(format!("the call changed memory beside {name}"))
     }
 
     /// Both ends are as before the call and every lent element is zero.
