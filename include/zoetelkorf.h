@@ -5,6 +5,7 @@
  *
  * The result is 0 on success, else the number of the refusal; *value receives the refusal's place, or on success what is said below.
  * A refusal leaves every lent list unchanged, except that 11 to 14 leave the work space all zero; after success it is all zero.
+ * A call takes at most 144 KiB of stack (measured; nothing proves it).
  * With n the length of owners: priorities n, starts n + 1, winners n, moves n, work 4 * n.
  */
 #ifndef ZOETELKORF_H
