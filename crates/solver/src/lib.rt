@@ -66,7 +66,7 @@ fn answer(
         moves,
         work,
     );
-    fill(work, 0);
+    fill(work, 0); // handed back all zero
 }
 
 // Writes winners and moves of the game, or gives the first of 1 to 8 that applies.
