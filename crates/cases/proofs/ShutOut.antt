@@ -6,7 +6,7 @@ use native.Mathlib.Omega.{arith}
 use lib.ListN.{getD}
 use Rattle.refusal.specs.Row.{success, refused}
 use Rattle.winning.specs.Answer.{noMove}
-use Rattle.cases.specs.Games.{A, B, game9}
+use Rattle.cases.specs.Games.{A, B, game8, game9}
 use Rattle.cases.specs.Table.{solved, checked, updated, Holds, winnersA, movesA, winnersB, movesB, Only}
 use Rattle.cases.specs.ShutOut.{ShutOut, WrongPrograms, A2, chain, chain1, free, free1}
 use Rattle.cases.proofs.Answers.{answered}
@@ -25,6 +25,10 @@ wrong-programs =
       writes-nothing = λ lent f h. shut _ (solvedA lent f) (λ q. h (sym q));
       accepts-all = λ work e. shut _ (row-holds (checked A winnersA (1 ∷ noMove ∷ 0 ∷ 3 ∷ []) (refused 14 1)) tt work e) (λ q. q);
       rejects-all = λ work e. shut _ (row-holds (checked A winnersA movesA (success [])) tt work e) (λ q. q);
+      thirteen-first = λ work e.
+          shut _ (row-holds (checked game8 (0 ∷ 1 ∷ []) (noMove ∷ noMove ∷ []) (refused 12 1)) tt work e) (λ q. let z : _≡_ {A = ℕ} 12 13 = cc in omega arith);
+      highest-place = λ work e.
+          shut _ (row-holds (checked A winnersA (noMove ∷ noMove ∷ noMove ∷ noMove ∷ []) (refused 12 0)) tt work e) (λ q. let z : _≡_ {A = ℕ} 0 3 = cc in omega arith);
       returns-old = λ lent f. shut _ (AtoB lent f) (λ q. let e : 1 ≡ 0 = ap (λ (l : List ℕ). getD l 0 0) q in omega arith);
       invents-count = λ lent f count h. shut _ (AtoB lent f) (λ q. h (cc));
       invents-change = λ lent f count h. shut _ (row-holds (updated A A winnersA movesA winnersA movesA 0) tt lent f) (λ q. h (cc));

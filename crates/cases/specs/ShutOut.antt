@@ -6,7 +6,7 @@ use mathlib.Core.List.{List, [], _∷_}
 use lib.ListN.{length, getD}
 use Rattle.refusal.specs.Row.{Said, success, refused}
 use Rattle.winning.specs.Answer.{noMove}
-use Rattle.cases.specs.Games.{FourTables, A, B, game9}
+use Rattle.cases.specs.Games.{FourTables, A, B, game8, game9}
 use Rattle.cases.specs.Table.{winnersA, movesA, Lent, Fits, outcome, Solving, Checking, Updating, zeros}
 
 -- no outcome that P allows is one of Q
@@ -55,6 +55,13 @@ pub record WrongPrograms : Type 0 where
       (work : List ℕ) → length work ≡ 16 → ShutOut (Checking A winnersA (1 ∷ noMove ∷ 0 ∷ 3 ∷ []) work) (λ j. IsSuccess (j .said))
   -- "… or rejects all"; "Looking at all cycles of the region without the moves: P1 is rejected."
   pub rejects-all : (work : List ℕ) → length work ≡ 16 → ShutOut (Checking A winnersA movesA work) (λ j. IsRefusal (j .said))
+  -- 13 given where 12 applies too: the game of P8 with no move at 1
+  pub thirteen-first :
+      (work : List ℕ) → length work ≡ 8 → ShutOut (Checking game8 (0 ∷ 1 ∷ []) (noMove ∷ noMove ∷ []) work) (λ j. j .said ≡ refused 13 0)
+  -- the highest vertex at fault for the lowest: A with no move at all
+  pub highest-place :
+      (work : List ℕ) → length work ≡ 16 →
+      ShutOut (Checking A winnersA (noMove ∷ noMove ∷ noMove ∷ noMove ∷ []) work) (λ j. j .said ≡ refused 12 3)
   -- "an update that returns the old answer": P3
   pub returns-old : (lent : Lent) → Fits 4 lent → ShutOut (Updating A B winnersA movesA lent) (λ o. o .winners ≡ winnersA)
   -- "one whose count is invented": P3, P4
