@@ -6,8 +6,8 @@ use mathlib.Core.List.{List, [], _∷_, _++_}
 use native.Mathlib.Decide.{ℕ-discrete}
 use lib.ListN.{length}
 use Rattle.refusal.specs.Row.{Row, NoPlace, None, First, Lowest, first-left, first-right, none-append, none-left, none-right}
-use Rattle.housefile.specs.Faults.{Fault8, owners-long, priorities-long, starts-long, targets-long, headRows, valueRows, fileRows}
-use Rattle.housefile.specs.Tests.{turnRows, filedRows}
+use Rattle.housefile.specs.Faults.{Fault8, owners-long, priorities-long, starts-long, targets-long, headRows, filedRows, valueRows, fileRows}
+use Rattle.housefile.specs.Tests.{turnRows}
 
 module _ (file owners priorities starts targets : List ℕ) where
   -- the last row

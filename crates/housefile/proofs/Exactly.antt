@@ -12,8 +12,8 @@ use Rattle.game.specs.Faults.{Fault2, Fault3, Fault5, Fault6, Fault7}
 use Rattle.game.proofs.WellFormed.{none-applies}
 use Rattle.housefile.specs.Format.{Filing, sumTo, vertexBlocks, targetBlocks, fileOf}
 use Rattle.housefile.specs.Filed.{verticesFiled, edgesFiled, countFiled, filed}
-use Rattle.housefile.specs.Faults.{FaultSizes, headRows, fileRows}
-use Rattle.housefile.specs.Tests.{turnRows, filedRows}
+use Rattle.housefile.specs.Faults.{FaultSizes, headRows, filedRows, fileRows}
+use Rattle.housefile.specs.Tests.{turnRows}
 use Rattle.housefile.proofs.HeadTests.{sizes-right, head-none, head-first-block}
 use Rattle.housefile.proofs.InTurn.{turn-none}
 use Rattle.housefile.proofs.RightBlock.{right-of, none-of-right}

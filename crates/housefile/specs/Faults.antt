@@ -77,16 +77,19 @@ abbrev pub blocksRows : List ℕ → (b k : ℕ) → List Row
 blocksRows file b zero = []
 blocksRows file b (suc k) = blockRows file b ++ blocksRows file (suc b) k
 
--- "then 2, 3, 5, 6, 7 on the values as filed; then 8"
-abbrev pub valueRows : (file owners priorities starts targets : List ℕ) → List Row
-valueRows file owners priorities starts targets =
+-- 45, "then 2, 3, 5, 6, 7 on the values as filed"
+abbrev pub filedRows : List ℕ → List Row
+filedRows file =
     record { number = 45; applies = Fault45 file } ∷
     record { number = 2; applies = Fault2 (ownersFiled file) } ∷
     record { number = 3; applies = Fault3 (verticesFiled file) (prioritiesFiled file) } ∷
     record { number = 5; applies = Fault5 (verticesFiled file) (startsFiled file) (targetsFiled file) } ∷
     record { number = 6; applies = Fault6 (verticesFiled file) (targetsFiled file) } ∷
-    record { number = 7; applies = Fault7 (verticesFiled file) (startsFiled file) (targetsFiled file) } ∷
-    record { number = 8; applies = Fault8 owners priorities starts targets } ∷ []
+    record { number = 7; applies = Fault7 (verticesFiled file) (startsFiled file) (targetsFiled file) } ∷ []
+
+-- "then 8": the lengths of the lent tables
+abbrev pub valueRows : (file owners priorities starts targets : List ℕ) → List Row
+valueRows file owners priorities starts targets = filedRows file ++ (record { number = 8; applies = Fault8 owners priorities starts targets } ∷ [])
 
 -- before the blocks are gone through: "under 512 bytes, 41; block 0 …; sizes, 1; exact length of the whole file, 41"
 abbrev pub headRows : List ℕ → List Row
@@ -102,3 +105,10 @@ fileRows file owners priorities starts targets =
     headRows file ++
     blocksRows file 1 (vertexBlocks (verticesFiled file) + targetBlocks (edgesFiled file)) ++
     valueRows file owners priorities starts targets
+
+-- all rows that judge the file itself: those of the reader with 8, which judges the lent tables, left out
+abbrev pub judgedRows : List ℕ → List Row
+judgedRows file =
+    headRows file ++
+    blocksRows file 1 (vertexBlocks (verticesFiled file) + targetBlocks (edgesFiled file)) ++
+    filedRows file

@@ -2,16 +2,15 @@
 use Prim.Native.Nat.{ℕ, _+_, _*_, _<_, _≤_}
 use mathlib.Core.Path.{_≡_}
 use mathlib.Core.Logic.{_≢_}
-use mathlib.Core.List.{List, [], _∷_}
+use mathlib.Core.List.{List, []}
 use lib.ListN.{length}
 use Rattle.refusal.specs.Row.{Row, Said, success}
 use Rattle.refusal.specs.Found.{saidOf}
 use Rattle.housefile.specs.declared.judged.Judged.{Judged}
 use Rattle.housefile.specs.declared.judged.Judged.the-variants.{Passed, Refused}
-use Rattle.game.specs.Faults.{Fault2, Fault3, Fault5, Fault6, Fault7}
 use Rattle.housefile.specs.Format.{sumTo, vertexBlocks, targetBlocks, blocksOf, highestOf}
-use Rattle.housefile.specs.Filed.{byteAt, verticesFiled, edgesFiled, countFiled, ownersFiled, prioritiesFiled, startsFiled, targetsFiled}
-use Rattle.housefile.specs.Faults.{Fault45, blocksRows}
+use Rattle.housefile.specs.Filed.{byteAt, verticesFiled, edgesFiled, countFiled, prioritiesFiled}
+use Rattle.housefile.specs.Faults.{blocksRows}
 
 -- what a part of the judgement says in the paper's numbers
 abbrev pub judgedSaid : Judged → Said
@@ -54,16 +53,6 @@ pub record Sized (file : List ℕ) : Type 0 where
 -- "then each block in turn"
 abbrev pub turnRows : List ℕ → List Row
 turnRows file = blocksRows file 1 (vertexBlocks (verticesFiled file) + targetBlocks (edgesFiled file))
-
--- the rows of the values, before the lengths of the lent tables
-abbrev pub filedRows : List ℕ → List Row
-filedRows file =
-    record { number = 45; applies = Fault45 file } ∷
-    record { number = 2; applies = Fault2 (ownersFiled file) } ∷
-    record { number = 3; applies = Fault3 (verticesFiled file) (prioritiesFiled file) } ∷
-    record { number = 5; applies = Fault5 (verticesFiled file) (startsFiled file) (targetsFiled file) } ∷
-    record { number = 6; applies = Fault6 (verticesFiled file) (targetsFiled file) } ∷
-    record { number = 7; applies = Fault7 (verticesFiled file) (startsFiled file) (targetsFiled file) } ∷ []
 
 -- v is a vertex of the file
 pub record Vertex (file : List ℕ) (v : ℕ) : Type 0 where

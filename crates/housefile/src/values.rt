@@ -15,8 +15,8 @@ ghost use Rattle.refusal.specs.Found.{Finds};
 ghost use Rattle.refusal.specs.Row.{Gives};
 ghost use Rattle.game.specs.Faults.{Fault2, Fault3, Fault5, Fault6, Fault7, Descent};
 ghost use Rattle.housefile.specs.Filed.{verticesFiled, ownersFiled, prioritiesFiled, startsFiled, targetsFiled};
-ghost use Rattle.housefile.specs.Faults.{Fault45};
-ghost use Rattle.housefile.specs.Tests.{Sized, Summed, Span, Totals, filedRows, judgedSaid};
+ghost use Rattle.housefile.specs.Faults.{Fault45, filedRows};
+ghost use Rattle.housefile.specs.Tests.{Sized, Summed, Span, Totals, judgedSaid};
 
 // The sum of all successor counts.
 fn total(file: &[u8]) -> usize

@@ -1,6 +1,6 @@
 -- The entry point: all rows in their order, each part after parts that pass; the tables are written after the last of them.
 use Rattle.housefile.proofs.AllRows.{Fixed, rows-head, rows-turn, rows-filed, rows-last, rows-none, fixed}
-use Rattle.housefile.specs.Faults.{Fault8, headRows, fileRows}
+use Rattle.housefile.specs.Faults.{Fault8, headRows, filedRows, fileRows}
 use mathlib.Core.List.{[], _∷_}
 use mathlib.Core.Path.{refl, ap₂}
 use lib.ListN.{length}
@@ -8,7 +8,7 @@ use Prim.Native.Nat.{ℕ, _≤_}
 use Rattle.housefile.proofs.ValueTests.{summed}
 use Rattle.housefile.proofs.HeadTests.{head-sized}
 use Rattle.housefile.proofs.Said.{is-refused, is-passed}
-use Rattle.housefile.specs.Tests.{turnRows, filedRows, Sized, Summed}
+use Rattle.housefile.specs.Tests.{turnRows, Sized, Summed}
 use Rattle.refusal.specs.Found.{found-at, found-nowhere}
 use Rattle.refusal.specs.Row.{None, NoPlace}
 use denote.Ref.{now}
