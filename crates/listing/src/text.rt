@@ -1,0 +1,44 @@
+// Appending to a text in a lent slice: each function takes the place at which it begins and returns the place after it.
+ghost use Prim.Native.Nat.{_<_};
+ghost use mathlib.Core.List.{[], _∷_, _++_};
+ghost use Rattle.listing.specs.Append.{Room, Appended};
+ghost use Rattle.listing.specs.Text.{decimalOf};
+
+pub fn byte(text: &mut [u8], at: usize, b: u8) -> usize
+    requires { ⌜ Room (now text) at (b ∷ []) ⌝ }
+    ensures { λ r. ⌜ Appended (now (text .entry)) (now (text .exit)) at (b ∷ []) r ⌝ }
+{
+    text[at] = b;
+    at + 1
+}
+
+pub fn word(text: &mut [u8], at: usize, word: &[u8]) -> usize
+    requires { ⌜ Room (now text) at (now word) ⌝ }
+    ensures { λ r. ⌜ Appended (now (text .entry)) (now (text .exit)) at (now (word .entry)) r ⌝ }
+{
+    let mut i = 0;
+    while i < word.len() {
+        text[at + i] = word[i];
+        i += 1;
+    }
+    at + i
+}
+
+// A number in decimal.
+pub fn number(text: &mut [u8], at: usize, n: u64) -> usize
+    requires { ⌜ Room (now text) at (decimalOf n) × (n < 100000) ⌝ }
+    ensures { λ r. ⌜ Appended (now (text .entry)) (now (text .exit)) at (decimalOf n) r ⌝ }
+{
+    let mut digits = [0u8; 20];
+    let k = io::decimal(n, &mut digits);
+    word(text, at, &digits[..k])
+}
+
+// A number, and the byte that parts it from what follows.
+pub fn field(text: &mut [u8], at: usize, n: u64, after: u8) -> usize
+    requires { ⌜ Room (now text) at (decimalOf n ++ (after ∷ [])) × (n < 100000) ⌝ }
+    ensures { λ r. ⌜ Appended (now (text .entry)) (now (text .exit)) at (decimalOf n ++ (after ∷ [])) r ⌝ }
+{
+    let next = number(text, at, n);
+    byte(text, next, after)
+}
