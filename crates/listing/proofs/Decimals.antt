@@ -6,10 +6,10 @@ use mathlib.Core.List.{List, [], _∷_, _++_}
 use native.Mathlib.Omega.{arith}
 use native.Mathlib.Decide.{decLt}
 use native.Mathlib.Nat.{pow-le-pow-right}
-use borrow.Author.Tests.{le-leb, lt-leb}
+use borrow.Author.Tests.{le-leb, lt-leb, eq-eqb, ne-eqb}
 use lib.ListN.{length, length-append}
 use Rattle.io.specs.Digits.{glyph, digits, Fewest}
-use Rattle.listing.specs.Text.{reaches, widthOf, decimalOf}
+use Rattle.listing.specs.Text.{reaches, widthOf, decimalOf, dash, moveField}
 
 reaches-yes : (k n : ℕ) → k ≤ n → reaches k n ≡ 1
 reaches-yes k n l = ap (λ (b : Bool). cond b 1 0) (le-leb k n l)
@@ -54,3 +54,11 @@ digits-long b (suc k) n = length-append (digits b k (n / b)) (glyph (n % b) ∷ 
 
 pub decimal-long : (n : ℕ) → length (decimalOf n) ≡ widthOf n
 decimal-long n = digits-long 10 (widthOf n) n
+
+-- the field of a move
+
+pub move-none : (to : ℕ) → to ≡ 65535 → moveField to ≡ dash
+move-none to e = ap (λ (b : Bool). cond b dash (decimalOf to)) (eq-eqb to 65535 e)
+
+pub move-some : (to : ℕ) → (to ≡ 65535 → ⊥) → moveField to ≡ decimalOf to
+move-some to e = ap (λ (b : Bool). cond b dash (decimalOf to)) (ne-eqb to 65535 e)

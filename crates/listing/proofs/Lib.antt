@@ -1,3 +1,5 @@
 -- the laws that the functions' proofs cite
 pub mod Appending
 pub mod Decimals
+pub mod Fields
+pub mod Lined

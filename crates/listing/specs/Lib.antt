@@ -1,3 +1,4 @@
 pub mod Text
 pub mod Listing
 pub mod Append
+pub mod Answering
