@@ -11,10 +11,10 @@ use lib.ListN.{length, length-append}
 use Rattle.io.specs.Digits.{glyph, digits, Fewest}
 use Rattle.listing.specs.Text.{reaches, widthOf, decimalOf, dash, moveField}
 
-reaches-yes : (k n : ℕ) → k ≤ n → reaches k n ≡ 1
+pub reaches-yes : (k n : ℕ) → k ≤ n → reaches k n ≡ 1
 reaches-yes k n l = ap (λ (b : Bool). cond b 1 0) (le-leb k n l)
 
-reaches-no : (k n : ℕ) → n < k → reaches k n ≡ 0
+pub reaches-no : (k n : ℕ) → n < k → reaches k n ≡ 0
 reaches-no k n l = ap (λ (b : Bool). cond b 1 0) (lt-leb k n l)
 
 -- the number of digits that the library gives

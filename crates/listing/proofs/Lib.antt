@@ -3,3 +3,6 @@ pub mod Appending
 pub mod Decimals
 pub mod Fields
 pub mod Lined
+pub mod Widths
+pub mod Answers
+pub mod Whole
