@@ -6,3 +6,5 @@ pub mod Lined
 pub mod Widths
 pub mod Answers
 pub mod Whole
+pub mod Judging
+pub mod Filing

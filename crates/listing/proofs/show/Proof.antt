@@ -1,32 +1,28 @@
+-- The part that was read is no longer than the file can be, and what is printed is the listing.
 use borrow.Author.Needs.{needs}
+use mathlib.Core.Path.{refl, sym}
+use native.Mathlib.Omega.{arith}
+use denote.Ref.{now}
+use lib.Seq.{length-take-le}
 use Rattle.listing.proofs.show.Statement.{statement}
 use Rattle.listing.proofs.show.Tie as tie
-use Rattle.listing.proofs.show.Reads as reads
-use Rattle.listing.proofs.show.Lts as lts
-use Rattle.listing.proofs.list.list.Reads as list-reads
-use Rattle.listing.proofs.print.Reads as print-reads
 
--- src/main.rt:17:18
 slice-aggregate-list : tie.Need-slice-aggregate-list
-slice-aggregate-list c = search needs
+slice-aggregate-list c = sym (length-take-le _ _ (c .before .before .pre .0))
 
--- src/main.rt:17:30
 slice-aggregate-list-2 : tie.Need-slice-aggregate-list-2
 slice-aggregate-list-2 c = search needs
 
--- src/main.rt:17:9
 list-requires : tie.Need-list-requires
-list-requires c κs = ?
+list-requires c κs =
+    let s = c .before .before .before in (omega (arith, length-take-le (s .args .n) (now (s .args .file)) (s .pre .0), s .pre .1), refl)
 
--- src/main.rt:18:11
 slice-aggregate-print : tie.Need-slice-aggregate-print
 slice-aggregate-print c = search needs
 
--- src/main.rt:18:5
 print-requires : tie.Need-print-requires
 print-requires c κs = search needs
 
--- src/main.rt:13:1
 returns : tie.Need-returns
 returns c = search needs
 

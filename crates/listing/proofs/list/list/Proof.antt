@@ -1,79 +1,88 @@
+-- The file as it was read, and its listing, or the line of its refusal (Filing).
 use borrow.Author.Needs.{needs}
+use Prim.Native.Nat.{ℕ, _<_}
+use mathlib.Core.Path.{refl}
+use native.Mathlib.Omega.{arith}
+use denote.Ref.{now}
+use lib.ListN.{getD}
+use Rattle.listing.proofs.Filing.{read-tabled, read-lists, refused-room, refused-lists}
 use Rattle.listing.proofs.list.list.Statement.{statement}
 use Rattle.listing.proofs.list.list.Tie as tie
-use Rattle.listing.proofs.list.list.Reads as reads
-use Rattle.listing.proofs.list.list.Lts as lts
-use Rattle.housefile.proofs.reader.read.Reads as read-reads
-use Rattle.listing.proofs.lines.refused_line.Reads as refused-line-reads
-use Rattle.listing.proofs.list.listed.Reads as listed-reads
 
--- src/list.rt:84:9
+-- the way back from the reader to the entry, and from each case to the reader
+abbrev start : tie.After-read → tie.Start
+start c = c .before .before .before .before .before .before .before
+
+abbrev read1 : tie.After-taken → tie.After-read
+read1 c = c .before .before .before .before .before .before
+
+abbrev read2 : tie.After-taken2 → tie.After-read
+read2 c = c .before .before .before .before .before .before
+
+bytes : (c : tie.After-read) (i : ℕ) → getD (now (start c .args .file)) i 0 < 256
+bytes c i = omega (arith, c .before .before .before .before .before .before .shared-slice-known .given i)
+
 slice-aggregate-read : tie.Need-slice-aggregate-read
 slice-aggregate-read c = search needs
 
--- src/list.rt:85:9
 slice-aggregate-read-2 : tie.Need-slice-aggregate-read-2
 slice-aggregate-read-2 c = search needs
 
--- src/list.rt:86:9
 slice-aggregate-read-3 : tie.Need-slice-aggregate-read-3
 slice-aggregate-read-3 c = search needs
 
--- src/list.rt:87:9
 slice-aggregate-read-4 : tie.Need-slice-aggregate-read-4
 slice-aggregate-read-4 c = search needs
 
--- src/list.rt:82:9
 read-requires : tie.Need-read-requires
 read-requires c κs = search needs
 
--- src/list.rt:90:23
 enum-known-taken : tie.Need-enum-known-taken
 enum-known-taken c = search needs
 
--- src/list.rt:90:29
 refused-line-requires : tie.Need-refused-line-requires
-refused-line-requires c κs = ?
+refused-line-requires c κs =
+    let t = c .before .before in
+    let r = read1 t in
+    refused-room _ _ _ _ _ _ _ _ _ (bytes r) _ (r .read .ensures) _ (record { owners-2048 = refl; priorities-2048 = refl; starts-2049 = refl; targets-16384 = refl }) (t .taken .given .1) (start r .pre .0) _ (start r .pre .1)
 
--- src/list.rt:91:20
 enum-known-taken-2 : tie.Need-enum-known-taken-2
 enum-known-taken-2 c = search needs
 
--- src/list.rt:94:26
 slice-aggregate-listed : tie.Need-slice-aggregate-listed
 slice-aggregate-listed c = search needs
 
--- src/list.rt:94:35
 slice-aggregate-listed-2 : tie.Need-slice-aggregate-listed-2
 slice-aggregate-listed-2 c = search needs
 
--- src/list.rt:94:48
 slice-aggregate-listed-3 : tie.Need-slice-aggregate-listed-3
 slice-aggregate-listed-3 c = search needs
 
--- src/list.rt:94:57
 slice-aggregate-listed-4 : tie.Need-slice-aggregate-listed-4
 slice-aggregate-listed-4 c = search needs
 
--- src/list.rt:94:13
 listed-requires : tie.Need-listed-requires
-listed-requires c κs = ?
+listed-requires c κs =
+    let t = c .before .before .before .before .before .before in
+    let r = read2 t in (read-tabled _ _ _ _ _ _ _ _ _ (bytes r) _ (r .read .ensures) _ (t .taken2 .given .1), start r .pre .1)
 
--- src/list.rt:74:1
 same-length : tie.Need-same-length
 same-length c = search needs
 
--- src/list.rt:74:1
 returns : tie.Need-returns
-returns c = ?
+returns c =
+    let t = c .before .before .before .before .before in
+    let r = read1 t in
+    refused-lists _ _ _ _ _ _ _ _ _ (bytes r) _ (r .read .ensures) _ (record { owners-2048 = refl; priorities-2048 = refl; starts-2049 = refl; targets-16384 = refl }) (t .taken .given .1) (start r .pre .0) _ (start r .pre .1) (c .before .before .refused-line .ensures)
 
--- src/list.rt:74:1
 same-length-2 : tie.Need-same-length-2
 same-length-2 c = search needs
 
--- src/list.rt:74:1
 returns-2 : tie.Need-returns-2
-returns-2 c = ?
+returns-2 c =
+    let l = c .before .before in
+    let t = l .before .before .before .before .before .before .before in
+    let r = read2 t in (l .listed .ensures .0, read-lists _ _ _ _ _ _ _ _ _ (bytes r) _ (r .read .ensures) _ _ (t .taken2 .given .1) (l .listed .ensures .1))
 
 pub list-spec : {M : Type 1} → statement M
 list-spec =
