@@ -38,9 +38,9 @@ module _ (n m : ℕ) (owners priorities starts targets winners moves work : List
       work-are = length-take-le (4 * n) work (s .work-long)
 
   pub answered :
-    (winners′ moves′ work′ : List ℕ) (said : Solved) →
-    Solves (take n owners) (take n priorities) (take (n + 1) starts) (take m targets) (take n winners) (take n moves) (take (4 * n) work) winners′ moves′ work′ (solvedSaid said) →
-    Answered n m owners priorities starts targets (winners′ ++ drop n winners) (moves′ ++ drop n moves)
+      (winners′ moves′ work′ : List ℕ) (said : Solved) →
+      Solves (take n owners) (take n priorities) (take (n + 1) starts) (take m targets) (take n winners) (take n moves) (take (4 * n) work) winners′ moves′ work′ (solvedSaid said) →
+      Answered n m owners priorities starts targets (winners′ ++ drop n winners) (moves′ ++ drop n moves)
   answered winners′ moves′ work′ Done a =
       let w : length winners′ ≡ n = a .winners-long ∙ length-take-le n winners (s .winners-long) in
       let v : length moves′ ≡ n = a .moves-long ∙ length-take-le n moves (s .moves-long) in
