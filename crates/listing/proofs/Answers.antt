@@ -1,5 +1,5 @@
 -- The solver does not refuse tables of a well-formed game, and its answer stands at the beginnings of the lists.
-use Prim.Native.Nat.{ℕ, _+_, _*_, _≤_}
+use Prim.Native.Nat.{ℕ, _+_, _*_}
 use mathlib.Core.Path.{_≡_, sym, ap, subst₂, _∙_}
 use mathlib.Core.List.{List, _++_}
 use native.Mathlib.Omega.{arith}

@@ -1,17 +1,16 @@
 -- The rows that judge a file: those of the reader without the last, whose place is small enough to be printed.
-use Prim.Native.Nat.{ℕ, zero, suc, _+_, _-_, _*_, _/_, _<_, _≤_}
-use mathlib.Core.Path.{_≡_, sym, subst, _∙_}
+use Prim.Native.Nat.{ℕ, zero, suc, _+_, _-_, _/_, _<_, _≤_}
+use mathlib.Core.Path.{_≡_, sym, subst}
 use mathlib.Core.Logic.{inl, inr}
 use mathlib.Core.List.{List, [], _∷_, _++_}
 use native.Mathlib.Omega.{arith}
-use lib.ListN.{length, getD, take, drop, length-take, length-drop}
+use lib.ListN.{length, getD, length-take, length-drop}
 use Rattle.refusal.specs.Row.{Row, None, First, none-append, first-not-none}
 use Rattle.game.specs.Faults.{Fault7}
 use Rattle.game.specs.Tables.{nextOf}
 use Rattle.housefile.specs.Format.{vertexBlocks, targetBlocks}
 use Rattle.housefile.specs.Filed.{verticesFiled, edgesFiled, startsFiled, targetsFiled}
 use Rattle.housefile.specs.Faults.{
-  Fault42,
   Fault43,
   number,
   kind,

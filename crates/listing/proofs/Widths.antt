@@ -1,12 +1,12 @@
 -- How long the lines are at most: the room that the text must have.
 use Prim.Native.Nat.{ℕ, zero, suc, _+_, _*_, _<_, _≤_}
-use mathlib.Core.Path.{_≡_, ap, sym, subst, _∙_}
+use mathlib.Core.Path.{_≡_, ap, _∙_}
 use mathlib.Core.Logic.{_⊎_, ⊎-elim}
 use mathlib.Core.List.{List, [], _∷_, _++_}
 use native.Mathlib.Omega.{arith}
 use native.Mathlib.Decide.{decLe}
 use lib.ListN.{length, getD, length-append}
-use Rattle.listing.specs.Text.{reaches, decimalOf, lineOf, wordGame, wordRefused, dash, moveField, gameLine, refusedLine, vertexLine, vertexLines}
+use Rattle.listing.specs.Text.{reaches, decimalOf, lineOf, wordGame, wordRefused, moveField, gameLine, refusedLine, vertexLine, vertexLines}
 use Rattle.listing.proofs.Decimals.{reaches-yes, reaches-no, decimal-long, move-none, move-some}
 
 reaches-most : (k n : ℕ) → reaches k n ≤ 1

@@ -4,8 +4,8 @@ use crate::text::field;
 use crate::text::number;
 use crate::text::word;
 use refusal::Refusal;
-ghost use Prim.Native.Nat.{_<_, _≤_};
-ghost use mathlib.Core.List.{[], _∷_, _++_};
+ghost use Prim.Native.Nat.{_<_};
+ghost use mathlib.Core.List.{[], _∷_};
 ghost use Rattle.refusal.specs.Number.{numberOf};
 ghost use Rattle.listing.specs.Text.{decimalOf, lineOf, moveField, gameLine, refusedLine, vertexLines};
 ghost use Rattle.listing.specs.Append.{Room, Appended};
@@ -27,10 +27,11 @@ pub fn refused_line(text: &mut [u8], r: Refusal) -> usize
     ensures { λ n. ⌜ Appended (now (text .entry)) (now (text .exit)) 0 (refusedLine (numberOf (r .kind)) (r .place)) n ⌝ }
 {
     let kind = r.kind;
-    let place = r.place;
+    let place = r.place as u64;
+    let number = refusal::number(kind);
     let a = word(text, 0, b"refused ");
-    let b = field(text, a, refusal::number(kind), b' ');
-    field(text, b, place as u64, b'\n')
+    let b = field(text, a, number, b' ');
+    field(text, b, place, b'\n')
 }
 
 // The move, or "-" where the loser owns the vertex.

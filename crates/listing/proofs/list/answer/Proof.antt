@@ -1,7 +1,6 @@
 -- The parts of the tables are a game that the solver does not refuse (Answers).
 use borrow.Author.Needs.{needs}
 use mathlib.Core.Path.{sym}
-use native.Mathlib.Omega.{arith}
 use lib.Seq.{length-take-le}
 use Rattle.listing.proofs.Answers.{answered}
 use Rattle.listing.proofs.list.answer.Statement.{statement}

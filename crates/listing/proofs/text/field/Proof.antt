@@ -1,6 +1,5 @@
 -- The number, then the byte.
 use borrow.Author.Needs.{needs}
-use mathlib.Core.List.{[], _∷_}
 use Rattle.listing.specs.Append.{appended-both, room-first, room-second}
 use Rattle.listing.proofs.text.field.Statement.{statement}
 use Rattle.listing.proofs.text.field.Tie as tie
