@@ -1,4 +1,7 @@
-pub mod Flags
-pub mod Walks
-pub mod Ranking
+pub mod Stamps
+pub mod Joining
+pub mod Leaving
 pub mod Picking
+pub mod Passing
+pub mod Storing
+pub mod Lining

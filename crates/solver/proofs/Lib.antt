@@ -1,6 +1,6 @@
 pub mod Opening
 pub mod Running
-pub mod Ranked
+pub mod LinedUp
 pub mod Fresh
 pub mod Outcomes
 pub mod Unique

@@ -7,9 +7,6 @@ use Rattle.game.specs.Tables.{gameOf}
 use Rattle.game.specs.Answer.{markOf, moveOf}
 use Rattle.winning.specs.Answer.{Accepted}
 use Rattle.reach.specs.Lists.{Preds, EdgesOf}
-use Rattle.reach.specs.Work.{section}
-use Rattle.pick.specs.declared.Cursor.{Cursor}
-use Rattle.pick.specs.Order.{Ahead}
 use Rattle.step.specs.State.{State, KeptSet}
 use Rattle.step.specs.Stepping.{Engine}
 
@@ -19,11 +16,9 @@ pub record Settleable (owners priorities starts targets heads nexts sources winn
   pub preds : Preds (length owners) targets heads nexts sources
   pub edges : EdgesOf (length owners) starts targets sources
 
--- the same with the lists by priority, and a cursor that every open vertex is ahead of
-pub record Runnable (c : Cursor) (owners priorities starts targets heads nexts sources tops winners moves work : List ℕ) : Type 0 where
-  pub engine : Engine owners priorities starts targets heads nexts sources tops winners moves work
-  pub ahead : Ahead (length owners) priorities (section 0 (length owners) work) c
-  pub bytes : (v : ℕ) → v < length owners → getD priorities v 0 < 256
+-- the same with the waiting lines
+pub record Runnable (owners priorities starts targets heads nexts sources firsts lasts winners moves work : List ℕ) : Type 0 where
+  pub engine : Engine owners priorities starts targets heads nexts sources firsts lasts winners moves work
 
 -- no line of a set of settled vertices whose successors are all in it changes
 pub record Unmoved (owners priorities starts targets winners moves work winners′ moves′ : List ℕ) : Type 0 where

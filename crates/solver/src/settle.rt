@@ -1,15 +1,12 @@
 // The engine: from any safe start to an accepted answer, one open vertex of least priority at a time.
-use pick::Cursor;
 use pick::Picked;
-use pick::from_priority;
+use pick::lines::line_up;
 use pick::pick;
-use pick::ranks::rank;
 use step::step;
 ghost use Rattle.solver.specs.Settling.{Settleable, SettledTo, Runnable};
 
 // Steps until nothing is open.
 fn run(
-    start: Cursor,
     owners: &[u8],
     priorities: &[u8],
     starts: &[u16],
@@ -17,26 +14,23 @@ fn run(
     heads: &[u16],
     nexts: &[u16],
     sources: &[u16],
-    tops: &[u16],
+    firsts: &mut [u16],
+    lasts: &mut [u16],
     winners: &mut [u8],
     moves: &mut [u16],
     work: &mut [u16],
 )
-    requires { ⌜ Runnable start (now owners) (now priorities) (now starts) (now targets) (now heads) (now nexts) (now sources) (now tops) (now winners) (now moves) (now work) ⌝ }
+    requires { ⌜ Runnable (now owners) (now priorities) (now starts) (now targets) (now heads) (now nexts) (now sources) (now firsts) (now lasts) (now winners) (now moves) (now work) ⌝ }
     ensures { λ _. ⌜ SettledTo (now (owners .entry)) (now (priorities .entry)) (now (starts .entry)) (now (targets .entry)) (now (winners .entry)) (now (moves .entry)) (now (work .entry)) (now (winners .exit)) (now (moves .exit)) (now (work .exit)) ⌝ }
 {
-    let n = owners.len();
-    let mut cursor = start;
+    let mut low: usize = 0;
     loop {
-        let picked = pick(n, priorities, tops, work, cursor);
-        let Picked::At(next) = picked else {
+        let picked = pick(firsts, low);
+        let Picked::At(v) = picked else {
             return;
         };
-        let v = next.vertex;
-        let at = next.cursor;
-        cursor = step(
+        low = step(
             v,
-            at,
             owners,
             priorities,
             starts,
@@ -44,7 +38,8 @@ fn run(
             heads,
             nexts,
             sources,
-            tops,
+            firsts,
+            lasts,
             winners,
             moves,
             work,
@@ -69,11 +64,10 @@ pub fn settle(
     ensures { λ _. ⌜ SettledTo (now (owners .entry)) (now (priorities .entry)) (now (starts .entry)) (now (targets .entry)) (now (winners .entry)) (now (moves .entry)) (now (work .entry)) (now (winners .exit)) (now (moves .exit)) (now (work .exit)) ⌝ }
 {
     let n = owners.len();
-    let mut tops = [0u16; 256];
-    rank(n, priorities, &mut tops, work);
-    let start = from_priority(n, priorities, &tops, work, 0, 0);
+    let mut firsts = [65535u16; 256];
+    let mut lasts = [0u16; 256];
+    line_up(n, priorities, &mut firsts, &mut lasts, work);
     run(
-        start,
         owners,
         priorities,
         starts,
@@ -81,7 +75,8 @@ pub fn settle(
         heads,
         nexts,
         sources,
-        &tops,
+        &mut firsts,
+        &mut lasts,
         winners,
         moves,
         work,

@@ -1,5 +1,6 @@
 pub mod Tests
 pub mod Flags
+pub mod Opens
 pub mod Reopens
 pub mod Turns
 pub mod Supports

@@ -6,17 +6,18 @@ use mathlib.Core.List.{List}
 use native.Mathlib.Omega.{arith}
 use native.Mathlib.Decide.{ℕ-discrete}
 use native.Mathlib.Nat.{not-suc-le-zero}
-use lib.ListN.{length, getD, set}
+use lib.ListN.{length, getD}
 use Rattle.player.specs.Player.{parityOf}
 use Rattle.game.specs.Answer.{markRoom, markOf, MarkSet}
 use Rattle.reach.specs.Work.{section}
 use Rattle.reach.proofs.Sections.{section-read}
 use Rattle.reach.proofs.Queues.{tail-bounded}
-use Rattle.step.specs.Parts.{FlagSet, Opened, Reopenable, Reopened}
-use Rattle.step.proofs.Flags.{flag-set}
+use Rattle.pick.specs.Lines.{Lines}
+use Rattle.step.specs.Parts.{Opened, FirstsKept, Openable, OpenedIn, Reopenable, Reopened}
+use Rattle.step.proofs.Opens.{firsts-same, firsts-more}
 
 -- the first i of the queue are open again, what is not marked is as before, and low is at most `priority`
-pub record Reopening (n : ℕ) (priorities winners₀ work₀ : List ℕ) (priority : ℕ) (winners work : List ℕ) (low i : ℕ) : Type 0 where
+pub record Reopening (n : ℕ) (priorities firsts₀ winners₀ work₀ : List ℕ) (priority : ℕ) (firsts lasts winners work : List ℕ) (low i : ℕ) : Type 0 where
   pub most : low ≤ priority
   pub room : markRoom winners ≡ markRoom winners₀
   pub long : length work ≡ length work₀
@@ -26,10 +27,11 @@ pub record Reopening (n : ℕ) (priorities winners₀ work₀ : List ℕ) (prior
   pub mark : (u : ℕ) → u < n → getD (section 1 n work₀) u 0 ≢ 1 → markOf winners u ≡ markOf winners₀ u
   pub marks : section 1 n work ≡ section 1 n work₀
   pub queue : section 2 n work ≡ section 2 n work₀
-  pub links : section 3 n work ≡ section 3 n work₀
+  pub lines : Lines n priorities (section 0 n work) firsts lasts (section 3 n work)
+  pub firsts-kept : FirstsKept firsts₀ firsts
 
-module _ {n : ℕ} {priorities winners₀ work₀ : List ℕ} {tail priority : ℕ} (p : Reopenable n priorities winners₀ work₀ tail) where
-  pub reopening-none : Reopening n priorities winners₀ work₀ priority winners₀ work₀ priority 0
+module _ {n : ℕ} {priorities firsts₀ lasts₀ winners₀ work₀ : List ℕ} {tail priority : ℕ} (p : Reopenable n priorities firsts₀ lasts₀ winners₀ work₀ tail) where
+  pub reopening-none : Reopening n priorities firsts₀ winners₀ work₀ priority firsts₀ lasts₀ winners₀ work₀ priority 0
   reopening-none =
       record {
         most = omega arith;
@@ -41,10 +43,11 @@ module _ {n : ℕ} {priorities winners₀ work₀ : List ℕ} {tail priority : �
         mark = λ u l ne. refl;
         marks = refl;
         queue = refl;
-        links = refl;
+        lines = p .lines;
+        firsts-kept = firsts-same;
       }
 
-  module _ {winners work : List ℕ} {low i : ℕ} (r : Reopening n priorities winners₀ work₀ priority winners work low i) where
+  module _ {firsts lasts winners work : List ℕ} {low i : ℕ} (r : Reopening n priorities firsts₀ winners₀ work₀ priority firsts lasts winners work low i) where
     long : length work ≡ 4 * n
     long = r .long ∙ p .work-long
 
@@ -58,8 +61,19 @@ module _ {n : ℕ} {priorities winners₀ work₀ : List ℕ} {tail priority : �
     marked : i < tail → getD (section 1 n work₀) (getD work (2 * n + i) 0) 0 ≡ 1
     marked l = ap (λ (v : ℕ). getD (section 1 n work₀) v 0) (is l) ∙ p .queued .marked i l
 
-    pub reopening-more : {winners′ : List ℕ} {q low′ : ℕ} (u : ℕ) → i < tail → u ≡ getD work (2 * n + i) 0 → q ≡ parityOf (getD priorities u 0) → MarkSet winners winners′ u q → low′ ≤ low → low′ ≤ getD priorities u 0 → Reopening n priorities winners₀ work₀ priority winners′ (set work u 1) low′ (i + 1)
-    reopening-more {winners′} {q} {low′} u l eu eq m before here =
+    pub reopening-openable : i < tail → Openable n (getD work (2 * n + i) 0) priorities firsts lasts work
+    reopening-openable l =
+        record {
+          small = p .small;
+          vertex = reopening-vertex l;
+          level = p .level;
+          byte = p .bytes _ (reopening-vertex l);
+          work-long = long;
+          lines = r .lines;
+        }
+
+    pub reopening-more : {firsts′ lasts′ winners′ work′ : List ℕ} {q low′ : ℕ} (u : ℕ) → i < tail → u ≡ getD work (2 * n + i) 0 → q ≡ parityOf (getD priorities u 0) → MarkSet winners winners′ u q → OpenedIn n u priorities firsts work firsts′ lasts′ work′ → low′ ≤ low → low′ ≤ getD priorities u 0 → Reopening n priorities firsts₀ winners₀ work₀ priority firsts′ lasts′ winners′ work′ low′ (i + 1)
+    reopening-more {firsts′} {lasts′} {winners′} {work′} {q} {low′} u l eu eq m f before here =
         record {
           most = omega (arith, r .most);
           room = m .room ∙ r .room;
@@ -70,26 +84,24 @@ module _ {n : ℕ} {priorities winners₀ work₀ : List ℕ} {tail priority : �
           mark = λ w h ne. m .other w (apart w ne) ∙ r .mark w h ne;
           marks = f .marks ∙ r .marks;
           queue = f .queue ∙ r .queue;
-          links = f .links ∙ r .links;
+          lines = f .lines;
+          firsts-kept = firsts-more (r .firsts-kept) (f .firsts-kept);
         }
       where
-        f : FlagSet n u 1 work (set work u 1)
-        f = flag-set long (subst (λ (v : ℕ). v < n) (sym eu) (reopening-vertex l))
-
         apart : (w : ℕ) → getD (section 1 n work₀) w 0 ≢ 1 → w ≢ u
         apart w ne e = ne (ap (λ (v : ℕ). getD (section 1 n work₀) v 0) (e ∙ eu) ∙ marked l)
 
-        at-u : Opened priorities winners′ (section 0 n (set work u 1)) u
+        at-u : Opened priorities winners′ (section 0 n work′) u
         at-u = record { flag = f .here; mark = m .here ∙ eq }
 
-        at : (j : ℕ) → j < i + 1 → Dec (getD (section 2 n work₀) j 0 ≡ u) → Opened priorities winners′ (section 0 n (set work u 1)) (getD (section 2 n work₀) j 0)
-        at j h (yes e) = subst (Opened priorities winners′ (section 0 n (set work u 1))) (sym e) at-u
+        at : (j : ℕ) → j < i + 1 → Dec (getD (section 2 n work₀) j 0 ≡ u) → Opened priorities winners′ (section 0 n work′) (getD (section 2 n work₀) j 0)
+        at j h (yes e) = subst (Opened priorities winners′ (section 0 n work′)) (sym e) at-u
         at j h (no ne) =
             let new : j ≢ i = λ e. ne (ap (λ (k : ℕ). getD (section 2 n work₀) k 0) e ∙ sym (is l) ∙ sym eu) in
             let o = r .passed j (omega arith) in
-            record { flag = f .other _ ne ∙ o .flag; mark = m .other _ ne ∙ o .mark }
+            record { flag = λ z. o .flag (sym (f .other _ ne) ∙ z); mark = m .other _ ne ∙ o .mark }
 
-    pub reopening-all : tail ≤ i → Reopened n priorities winners₀ work₀ priority winners work low
+    pub reopening-all : tail ≤ i → Reopened n priorities firsts₀ winners₀ work₀ priority firsts lasts winners work low
     reopening-all l =
         record {
           most = r .most;
@@ -107,5 +119,6 @@ module _ {n : ℕ} {priorities winners₀ work₀ : List ℕ} {tail priority : �
           mark = r .mark;
           marks = r .marks;
           queue = r .queue;
-          links = r .links;
+          lines = r .lines;
+          firsts-kept = r .firsts-kept;
         }

@@ -1,11 +1,11 @@
 -- Turning a vertex: the closure, the reopening and the stores, one after the other, said of the lists alone.
 use Prim.Native.Nat.{ℕ, _*_, _<_, _≤_}
-use mathlib.Core.Path.{_≡_, sym, ap, subst, _∙_}
+use mathlib.Core.Path.{_≡_, refl, sym, ap, subst, _∙_}
 use mathlib.Core.Logic.{_≢_}
 use mathlib.Core.List.{List}
 use native.Mathlib.Omega.{arith}
 use native.Mathlib.Decide.{ℕ-discrete}
-use lib.ListN.{length, getD, set}
+use lib.ListN.{length, getD}
 use Rattle.game.specs.Answer.{markRoom, MarkSet, MoveSet}
 use Rattle.winning.specs.Walk.{Walk, follow}
 use Rattle.reach.specs.Closure.{Allowed, ClosedFrom}
@@ -13,27 +13,24 @@ use Rattle.reach.specs.Work.{section}
 use Rattle.reach.specs.Queue.{SeedableIn, PushedIn, ClosableIn, ClosedIn, ClearableIn, ClearedIn}
 use Rattle.reach.proofs.Sections.{section-long}
 use Rattle.reach.proofs.Queues.{fresh-in, pushed-queued}
-use Rattle.pick.specs.declared.Cursor.{Cursor}
-use Rattle.pick.specs.Order.{Ranks}
-use Rattle.pick.specs.Search.{Startable, Started}
-use Rattle.step.specs.Parts.{FlagSet, Reopenable, Reopened}
+use Rattle.reach.specs.Lists.{nil}
+use Rattle.pick.specs.Lines.{Waits, Lines, Settles}
+use Rattle.pick.specs.Moves.{Left}
+use Rattle.pick.proofs.Leaving.{lines-left}
+use Rattle.step.specs.Parts.{FlagSet, Keepable, Reopenable, Reopened}
 use Rattle.step.specs.Turning.{Turnable, Reached, TurnedIn}
-use Rattle.step.proofs.Flags.{flag-set}
 
 module _
-    {n v : ℕ} {priorities targets heads nexts sources tops winners moves work : List ℕ}
-    (p : Turnable n v priorities targets heads nexts sources tops winners moves work)
+    {n v : ℕ} {priorities targets heads nexts sources firsts lasts winners moves work : List ℕ}
+    (p : Turnable n v priorities targets heads nexts sources firsts lasts winners moves work)
   where
     -- nothing is marked yet
     clean : (u : ℕ) → u < n → getD (section 1 n work) u 0 ≡ 0
     clean u l = p .unmarked .all u (omega (arith, section-long n work (p .work-long) 1 (omega arith)))
 
-    -- v has a priority and a move
+    -- v has a priority
     pub in-priorities : v < length priorities
     in-priorities = omega (arith, p .least .vertex, p .level)
-
-    pub in-moves : v < length moves
-    in-moves = omega (arith, p .least .vertex, p .moves-long)
 
     pub seedable : SeedableIn n v work 0
     seedable =
@@ -68,13 +65,15 @@ module _
         flags : section 0 n work₂ ≡ section 0 n work
         flags = c .beside .levels ∙ s .beside .levels
 
-        pub reopenable : Reopenable n priorities winners work₂ tail
+        pub reopenable : Reopenable n priorities firsts lasts winners work₂ tail
         reopenable =
             record {
               small = p .small;
               level = p .level;
+              bytes = p .bytes;
               room = p .room;
               work-long = c .beside .long ∙ s .beside .long ∙ p .work-long;
+              lines = rw (flags, c .beside .spare ∙ s .beside .spare) (p .lines);
               queued = c .closed .queued;
             }
 
@@ -101,7 +100,7 @@ module _
             leads-to =
                 record { itself = close .kept v (p .least .vertex) (s .pushed .seeded .here); leads = leads; closed = close .closed }
 
-        module _ {winners₃ work₃ : List ℕ} {low : ℕ} (r : Reopened n priorities winners work₂ (getD priorities v 0) winners₃ work₃ low) where
+        module _ {firsts₃ lasts₃ winners₃ work₃ : List ℕ} {low : ℕ} (r : Reopened n priorities firsts winners work₂ (getD priorities v 0) firsts₃ lasts₃ winners₃ work₃ low) where
           pub clearable : ClearableIn n work₃ tail
           clearable =
               record {
@@ -117,59 +116,79 @@ module _
             long : length work₄ ≡ 4 * n
             long = d .beside .long ∙ clearable .long
 
-            pub in-work : v < length work₄
-            in-work = omega (arith, p .least .vertex, long)
-
-            settled : FlagSet n v 0 work₄ (set work₄ v 0)
-            settled = flag-set long (p .least .vertex)
-
-            pub long-kept : length (set work₄ v 0) ≡ length work
-            long-kept = settled .long ∙ long ∙ sym (p .work-long)
-
-            -- the flags of all but v are those after the reopening
-            flag-of : (u : ℕ) → u ≢ v → getD (section 0 n (set work₄ v 0)) u 0 ≡ getD (section 0 n work₃) u 0
-            flag-of u ne = settled .other u ne ∙ ap (λ (l : List ℕ). getD l u 0) (d .beside .levels)
-
-            same-flag : (u : ℕ) → u < n → u ≢ v → getD (section 1 n work₂) u 0 ≢ 1 → getD (section 0 n (set work₄ v 0)) u 0 ≡ getD (section 0 n work) u 0
-            same-flag u l ne out = flag-of u ne ∙ r .flag u l out ∙ ap (λ (k : List ℕ). getD k u 0) flags
-
-            links : section 3 n (set work₄ v 0) ≡ section 3 n work
-            links = settled .links ∙ d .beside .spare ∙ r .links ∙ c .beside .spare ∙ s .beside .spare
-
-            -- what is open was open, so not below v, or is open again
-            above : (u : ℕ) → u < n → getD (section 0 n (set work₄ v 0)) u 0 ≢ 0 → low ≤ getD priorities u 0
-            above u l f =
-                let ne : u ≢ v = λ e. f (ap (λ (k : ℕ). getD (section 0 n (set work₄ v 0)) k 0) e ∙ settled .here) in
-                elim (ℕ-discrete (getD (section 1 n work₂) u 0) 1) [
-                  | yes one ↦ r .below u l one
-                  | no out ↦ omega (arith, r .most, p .least .least u l (λ z. f (same-flag u l ne out ∙ z)))
-                ]
-
-            pub startable : Startable n priorities tops (set work₄ v 0) low
-            startable =
+            pub keepable : Keepable v (getD priorities v 0) firsts₃ moves work₄
+            keepable =
                 record {
-                  ranks = subst (Ranks n priorities tops) (sym links) (p .ranks);
-                  small = omega (arith, r .most, p .byte);
-                  none-below = record { above = above };
+                  small = omega (arith, p .small, p .moves-long);
+                  vertex = omega (arith, p .least .vertex, p .moves-long);
+                  byte = p .bytes v (p .least .vertex);
+                  firsts-long = r .lines .firsts-long;
+                  work-long = rw (p .moves-long) long;
                 }
 
-            pub turned : {winners′ moves′ : List ℕ} {q m : ℕ} {cursor : Cursor} → MarkSet winners₃ winners′ v q → MoveSet moves moves′ v m → Started n priorities (section 0 n (set work₄ v 0)) low cursor → TurnedIn n v q m priorities targets sources winners moves work winners′ moves′ (set work₄ v 0) cursor
-            turned mark move start =
+            -- v is still the first of its line: whoever joined stands behind it
+            still-first : getD firsts₃ (getD priorities v 0) 0 ≡ v
+            still-first = r .firsts-kept .first _ (λ e. omega (arith, p .first, p .least .vertex, p .small)) ∙ p .first
+
+            lines : Lines n priorities (section 0 n work₄) firsts₃ lasts₃ (section 3 n work₄)
+            lines = rw (d .beside .levels, d .beside .spare) (r .lines)
+
+            waits : Waits n priorities (section 0 n work₄) (getD priorities v 0) v
+            waits =
                 record {
-                  reached = section 1 n work₂;
-                  leaning = leaning;
-                  room = mark .room ∙ r .room;
-                  long = long-kept;
-                  mark = mark .here;
-                  move = move;
-                  flag = settled .here;
-                  reopened =
-                      λ u l ne one.
-                      let o = r .reopened u l one in
-                      record { flag = flag-of u ne ∙ o .flag; mark = mark .other u ne ∙ o .mark };
-                  same-mark = λ u l ne out. mark .other u ne ∙ r .mark u l out;
-                  same-flag = same-flag;
-                  unmarked = rw (settled .marks) (d .filled);
-                  links = links;
-                  ahead = start .ahead;
+                  vertex = p .least .vertex;
+                  unsettled = rw (d .beside .levels) (r .reopened v (p .least .vertex) (leaning .itself) .flag);
+                  same = refl;
                 }
+
+            module _ {firsts′ work′ : List ℕ} (left₀ : Left v (getD priorities v 0) firsts₃ (section 3 (length moves) work₄) firsts′) (settled₀ : FlagSet (length moves) v 0 work₄ work′) where
+              left : Left v (getD priorities v 0) firsts₃ (section 3 n work₄) firsts′
+              left = subst (λ (k : ℕ). Left v (getD priorities v 0) firsts₃ (section 3 k work₄) firsts′) (p .moves-long) left₀
+
+              settled : FlagSet n v 0 work₄ work′
+              settled = subst (λ (k : ℕ). FlagSet k v 0 work₄ work′) (p .moves-long) settled₀
+
+              pub long-kept : length work′ ≡ length work
+              long-kept = settled .long ∙ long ∙ sym (p .work-long)
+
+              -- the flags of all but v are those after the reopening
+              flag-of : (u : ℕ) → u ≢ v → getD (section 0 n work′) u 0 ≡ getD (section 0 n work₃) u 0
+              flag-of u ne = settled .other u ne ∙ ap (λ (l : List ℕ). getD l u 0) (d .beside .levels)
+
+              same-flag : (u : ℕ) → u < n → u ≢ v → getD (section 1 n work₂) u 0 ≢ 1 → getD (section 0 n work′) u 0 ≡ getD (section 0 n work) u 0
+              same-flag u l ne out = flag-of u ne ∙ r .flag u l out ∙ ap (λ (k : List ℕ). getD k u 0) flags
+
+              -- what is open was open, so not below v, or is open again
+              above : (u : ℕ) → u < n → getD (section 0 n work′) u 0 ≢ 0 → low ≤ getD priorities u 0
+              above u l f =
+                  let ne : u ≢ v = λ e. f (ap (λ (k : ℕ). getD (section 0 n work′) k 0) e ∙ settled .here) in
+                  elim (ℕ-discrete (getD (section 1 n work₂) u 0) 1) [
+                    | yes one ↦ r .below u l one
+                    | no out ↦ omega (arith, r .most, p .least .least u l (λ z. f (same-flag u l ne out ∙ z)))
+                  ]
+
+              lines′ : Lines n priorities (section 0 n work′) firsts′ lasts₃ (section 3 n work′)
+              lines′ =
+                  subst (Lines n priorities (section 0 n work′) firsts′ lasts₃) (sym (settled .links))
+                  (lines-left lines (p .small) (p .bytes v (p .least .vertex)) waits still-first (record { here = settled .here; other = settled .other }) left)
+
+              pub turned : {winners′ moves′ : List ℕ} {q m : ℕ} → MarkSet winners₃ winners′ v q → MoveSet moves moves′ v m → TurnedIn n v q m priorities targets sources winners moves work firsts′ lasts₃ winners′ moves′ work′ low
+              turned mark move =
+                  record {
+                    reached = section 1 n work₂;
+                    leaning = leaning;
+                    room = mark .room ∙ r .room;
+                    long = long-kept;
+                    mark = mark .here;
+                    move = move;
+                    flag = settled .here;
+                    reopened =
+                        λ u l ne one.
+                        let o = r .reopened u l one in
+                        record { flag = λ z. o .flag (sym (flag-of u ne) ∙ z); mark = mark .other u ne ∙ o .mark };
+                    same-mark = λ u l ne out. mark .other u ne ∙ r .mark u l out;
+                    same-flag = same-flag;
+                    unmarked = rw (settled .marks) (d .filled);
+                    lines = lines′;
+                    none-below = record { above = above };
+                  }

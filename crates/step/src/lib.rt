@@ -2,7 +2,6 @@
 use crate::keep::keep;
 use crate::test::test;
 use crate::turn::turn;
-use pick::Cursor;
 use player::Player;
 ghost use Rattle.step.specs.Stepping.{Steppable, Stepped};
 
@@ -11,10 +10,9 @@ mod reopen;
 pub mod test;
 mod turn;
 
-// Settles v if the test gives its own parity, else turns it; the cursor is where the search for the next vertex goes on.
+// Settles v, the first of its line, if the test gives its own parity, else turns it. The result is the lowest priority at which something may be open.
 pub fn step(
     v: usize,
-    cursor: Cursor,
     owners: &[u8],
     priorities: &[u8],
     starts: &[u16],
@@ -22,18 +20,20 @@ pub fn step(
     heads: &[u16],
     nexts: &[u16],
     sources: &[u16],
-    tops: &[u16],
+    firsts: &mut [u16],
+    lasts: &mut [u16],
     winners: &mut [u8],
     moves: &mut [u16],
     work: &mut [u16],
-) -> Cursor
-    requires { ⌜ Steppable v cursor (now owners) (now priorities) (now starts) (now targets) (now heads) (now nexts) (now sources) (now tops) (now winners) (now moves) (now work) ⌝ }
-    ensures { λ r. ⌜ Stepped r (now (owners .entry)) (now (priorities .entry)) (now (starts .entry)) (now (targets .entry)) (now (heads .entry)) (now (nexts .entry)) (now (sources .entry)) (now (tops .entry)) (now (winners .entry)) (now (moves .entry)) (now (work .entry)) (now (winners .exit)) (now (moves .exit)) (now (work .exit)) ⌝ }
+) -> usize
+    requires { ⌜ Steppable v (now owners) (now priorities) (now starts) (now targets) (now heads) (now nexts) (now sources) (now firsts) (now lasts) (now winners) (now moves) (now work) ⌝ }
+    ensures { λ r. ⌜ Stepped r (now (owners .entry)) (now (priorities .entry)) (now (starts .entry)) (now (targets .entry)) (now (heads .entry)) (now (nexts .entry)) (now (sources .entry)) (now (winners .entry)) (now (moves .entry)) (now (work .entry)) (now (firsts .exit)) (now (lasts .exit)) (now (winners .exit)) (now (moves .exit)) (now (work .exit)) ⌝ }
 {
     let line = test(v, owners, priorities, starts, targets, winners);
-    if line.winner == Player::of_priority(priorities[v]).bit {
-        keep(v, line.to, moves, work);
-        return cursor;
+    let own = priorities[v];
+    if line.winner == Player::of_priority(own).bit {
+        keep(v, line.to, own as usize, firsts, moves, work);
+        return own as usize;
     }
     turn(
         owners.len(),
@@ -44,7 +44,8 @@ pub fn step(
         heads,
         nexts,
         sources,
-        tops,
+        firsts,
+        lasts,
         winners,
         moves,
         work,

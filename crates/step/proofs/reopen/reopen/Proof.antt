@@ -1,25 +1,25 @@
 -- `step::reopen::reopen` meets its contract. The invariant, `Reopening`: the queue's places below i are open again, what is not marked is as it was.
 -- Assumes nothing.
 use Prim.Native.Nat.{_+_, _*_, _-_, _<_}
-use borrow.Author.Needs.{needs}
 use native.Mathlib.Omega.{arith}
-use mathlib.Core.Path.{refl}
+use mathlib.Core.Path.{refl, sym, _∙_}
 use lib.ListN.{getD}
 use Rattle.game.specs.Answer.{markRoom}
 use Rattle.reach.proofs.Queues.{tail-bounded}
-use Rattle.step.proofs.Reopens.{Reopening, reopening-none, reopening-vertex, reopening-more, reopening-all}
+use Rattle.step.proofs.Reopens.{Reopening, reopening-none, reopening-vertex, reopening-openable, reopening-more, reopening-all}
+use borrow.Author.Needs.{needs}
 use Rattle.step.proofs.reopen.reopen.Statement.{statement}
 use Rattle.step.proofs.reopen.reopen.Tie as tie
 
 abbrev Inv-loop : tie.InvT-loop
-Inv-loop n priorities winners₀ work₀ tail priority queue low₀ i₀ winners work low i = Reopening n priorities winners₀ work₀ priority winners work low i
+Inv-loop n priorities firsts₀ lasts₀ winners₀ work₀ tail priority queue low₀ i₀ firsts lasts winners work low i = Reopening n priorities firsts₀ winners₀ work₀ priority firsts lasts winners work low i
 
 abbrev μ-loop : tie.MeasureT-loop
-μ-loop n priorities winners₀ work₀ tail priority queue low₀ i₀ winners work low i = tail - i
+μ-loop n priorities firsts₀ lasts₀ winners₀ work₀ tail priority queue low₀ i₀ firsts lasts winners work low i = tail - i
 
 -- a turn's place is one of the queue's n, and a vertex stands there
 abbrev start : tie.In-loop Inv-loop μ-loop → tie.Start Inv-loop μ-loop
-start c = c .before .before .before .before .before
+start c = c .before .before .before .before .before .before .before
 
 place : (c : tie.In-loop Inv-loop μ-loop) → c .before .loop .i < start c .args .n
 place c = omega (arith, c .loop-test .taken, tail-bounded (start c .pre .queued))
@@ -31,7 +31,7 @@ mul-queue : tie.Need-mul-queue Inv-loop μ-loop
 mul-queue c = search needs
 
 loop-holds : tie.Need-loop-holds Inv-loop μ-loop
-loop-holds c = reopening-none (c .before .before .before .pre)
+loop-holds c = reopening-none (c .before .before .before .before .before .pre)
 
 add-u : tie.Need-add-u Inv-loop μ-loop
 add-u c = omega (arith, place c, start c .pre .small)
@@ -54,14 +54,11 @@ of-priority-requires c κs = search needs
 set-mark-requires : tie.Need-set-mark-requires Inv-loop μ-loop
 set-mark-requires c κs = let t = c .before .before .before .before in omega (arith, vertex t, start t .pre .room, t .before .loop .inv .room)
 
-mul-work : tie.Need-mul-work Inv-loop μ-loop
-mul-work c = let t = c .before .before .before .before .before .before .before in omega (arith, vertex t, start t .pre .small)
-
-slice-write-work : tie.Need-slice-write-work Inv-loop μ-loop
-slice-write-work c = let t = c .before .before .before .before .before .before .before in omega (arith, vertex t, start t .pre .work-long, t .before .loop .inv .long)
+open-again-requires : tie.Need-open-again-requires Inv-loop μ-loop
+open-again-requires c κs = let t = c .before .before .before .before .before .before .before .before .before .before in reopening-openable (start t .pre) (t .before .loop .inv) (t .loop-test .taken)
 
 cast-least : tie.Need-cast-least Inv-loop μ-loop
-cast-least c = omega (arith, c .before .before .before .before .before .shared-slice-known2 .given (getD (c .before .before .before .before .before .before .before .before .loop .work) (2 * start (c .before .before .before .before .before .before .before) .args .n + c .before .before .before .before .before .before .before .before .loop .i) 0))
+cast-least c = omega (arith, c .before .before .before .before .before .before .before .before .before .before .before .before .before .before .before .shared-slice-known2 .given (getD (c .before .before .before .before .before .before .before .before .before .before .before .before .before .before .before .before .before .before .loop .work) (2 * start (c .before .before .before .before .before .before .before .before .before .before .before .before .before .before .before .before .before) .args .n + c .before .before .before .before .before .before .before .before .before .before .before .before .before .before .before .before .before .before .loop .i) 0))
 
 least-requires : tie.Need-least-requires Inv-loop μ-loop
 least-requires c κs = search needs
@@ -73,21 +70,23 @@ loop-less : tie.Need-loop-less Inv-loop μ-loop
 loop-less c = search needs
 
 loop-again : tie.Need-loop-again Inv-loop μ-loop
-loop-again c =
-    let l = c .before in
-    let s = l .before .before in
-    let t = s .before .before .before .before .before in
-    reopening-more (start t .pre) (t .before .loop .inv) _ (t .loop-test .taken) refl (s .before .before .of-priority .ensures) (s .set-mark .ensures) (c .least .ensures .0) (c .least .ensures .1)
+loop-again c = let t = c .before .before .before .before .before .before .before .before .before .before .before .before .before .before .before .before .before .before in reopening-more (start t .pre) (t .before .loop .inv) _ (t .loop-test .taken) refl (c .before .before .before .before .before .before .before .before .before .before .before .before .before .before .of-priority .ensures) (c .before .before .before .before .before .before .before .before .before .before .before .before .before .set-mark .ensures) (c .before .before .before .before .before .before .before .open-again .ensures) (c .least .ensures .0) (c .least .ensures .1)
 
 same-length : tie.Need-same-length Inv-loop μ-loop
-unfolding markRoom
-same-length c = c .before .loop .inv .room
+same-length c = c .before .loop .inv .lines .firsts-long ∙ sym (c .before .before .before .before .before .before .before .pre .lines .firsts-long)
 
 same-length-2 : tie.Need-same-length-2 Inv-loop μ-loop
-same-length-2 c = search needs
+same-length-2 c = c .before .loop .inv .lines .lasts-long ∙ sym (c .before .before .before .before .before .before .before .pre .lines .lasts-long)
+
+same-length-3 : tie.Need-same-length-3 Inv-loop μ-loop
+unfolding markRoom
+same-length-3 c = c .before .loop .inv .room
+
+same-length-4 : tie.Need-same-length-4 Inv-loop μ-loop
+same-length-4 c = c .before .loop .inv .long
 
 returns : tie.Need-returns Inv-loop μ-loop
-returns c = reopening-all (c .before .before .before .before .before .pre) (c .before .loop .inv) (c .loop-test .left)
+returns c = reopening-all (c .before .before .before .before .before .before .before .pre) (c .before .loop .inv) (c .loop-test .left)
 
 pub reopen-spec : {M : Type 1} → statement M
 reopen-spec =
@@ -104,8 +103,7 @@ reopen-spec =
     shared-slice-read-p
     of-priority-requires
     set-mark-requires
-    mul-work
-    slice-write-work
+    open-again-requires
     cast-least
     least-requires
     add-i
@@ -113,4 +111,6 @@ reopen-spec =
     loop-again
     same-length
     same-length-2
+    same-length-3
+    same-length-4
     returns)
