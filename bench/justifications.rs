@@ -1,13 +1,13 @@
 //! The library's own method in plain Rust: fixpoint iteration with justifications, one vertex at a
-//! time, over the same structures (lists of the edges into each vertex and of the vertices of each
-//! priority, a cursor, the reopened vertices as hints). It takes well-formed games only.
+//! time, over the same structures (lists of the edges into each vertex, a waiting line of the open
+//! vertices of each priority). It takes well-formed games only.
 
 use crate::game::{parity, Answer, Tables, NO_MOVE};
 
 /// Ends a list.
 const NONE: u16 = 65_535;
 
-/// No vertex has this priority; the cursor stands there when nothing is open.
+/// No vertex has this priority.
 const PAST_PRIORITIES: usize = 255;
 
 /// For each vertex the list of the edges into it, the last edge first.
@@ -17,31 +17,24 @@ struct EdgesInto {
     sources: Vec<u16>,
 }
 
-/// For each priority the list of its vertices, the last vertex first.
-struct OfPriority {
-    heads: [u16; PAST_PRIORITIES],
-    nexts: Vec<u16>,
-}
-
-/// Where `pick` goes on: all open vertices have this priority or a higher one, and those of this
-/// priority are hints or from this place on.
-struct Cursor {
-    priority: usize,
-    place: u16,
+/// A waiting line for each priority: its open vertices in the order in which they were opened.
+struct Lines {
+    firsts: [u16; PAST_PRIORITIES],
+    lasts: [u16; PAST_PRIORITIES],
+    behind: Vec<u16>,
 }
 
 struct State<'a> {
     game: &'a Tables,
     into: EdgesInto,
-    of_priority: OfPriority,
+    lines: Lines,
     winners: Vec<u8>,
     moves: Vec<u16>,
     settled: Vec<bool>,
-    cursor: Cursor,
-    /// The vertices reopened last, in the order of the closure, and how many of them have been
-    /// tried as hints.
+    /// Nothing of a lower priority is open.
+    low: usize,
+    /// The vertices reopened last, in the order of the closure.
     reopened: Vec<u16>,
-    tried: usize,
 }
 
 pub fn solve(game: &Tables) -> Answer {
@@ -78,59 +71,55 @@ impl EdgesInto {
     }
 }
 
-impl OfPriority {
-    fn of(game: &Tables) -> Self {
-        let mut lists = OfPriority { heads: [NONE; PAST_PRIORITIES], nexts: vec![0; game.n()] };
-        for v in 0..game.n() {
-            let head = &mut lists.heads[game.priorities[v] as usize];
-            lists.nexts[v] = *head;
-            *head = v as u16;
+impl Lines {
+    fn empty(n: usize) -> Self {
+        Lines {
+            firsts: [NONE; PAST_PRIORITIES],
+            lasts: [NONE; PAST_PRIORITIES],
+            behind: vec![NONE; n],
         }
-        lists
+    }
+
+    fn join(&mut self, v: usize, priority: usize) {
+        self.behind[v] = NONE;
+        match self.firsts[priority] {
+            NONE => self.firsts[priority] = v as u16,
+            _ => self.behind[self.lasts[priority] as usize] = v as u16,
+        }
+        self.lasts[priority] = v as u16;
     }
 }
 
 impl<'a> State<'a> {
     fn all_open(game: &'a Tables) -> Self {
         let n = game.n();
-        let of_priority = OfPriority::of(game);
-        let cursor = Cursor { priority: 0, place: of_priority.heads[0] };
+        let mut lines = Lines::empty(n);
+        for v in 0..n {
+            lines.join(v, game.priorities[v] as usize);
+        }
         State {
             game,
             into: EdgesInto::of(game),
-            of_priority,
+            lines,
             winners: game.priorities.iter().map(|&p| parity(p)).collect(),
             moves: vec![NO_MOVE; n],
             settled: vec![false; n],
-            cursor,
+            low: 0,
             reopened: Vec::with_capacity(n),
-            tried: 0,
         }
     }
 
-    /// An open vertex of least priority.
+    /// An open vertex of least priority, which leaves its line.
     fn pick(&mut self) -> Option<usize> {
-        while let Some(&v) = self.reopened.get(self.tried) {
-            let v = v as usize;
-            self.tried += 1;
-            if !self.settled[v] && self.game.priorities[v] as usize == self.cursor.priority {
-                return Some(v);
+        while self.low < PAST_PRIORITIES {
+            let first = self.lines.firsts[self.low];
+            if first != NONE {
+                self.lines.firsts[self.low] = self.lines.behind[first as usize];
+                return Some(first as usize);
             }
+            self.low += 1;
         }
-        loop {
-            while self.cursor.place != NONE {
-                let v = self.cursor.place as usize;
-                self.cursor.place = self.of_priority.nexts[v];
-                if !self.settled[v] {
-                    return Some(v);
-                }
-            }
-            self.cursor.priority += 1;
-            if self.cursor.priority >= PAST_PRIORITIES {
-                return None;
-            }
-            self.cursor.place = self.of_priority.heads[self.cursor.priority];
-        }
+        None
     }
 
     /// Who takes v by its successors, and by which move.
@@ -142,20 +131,19 @@ impl<'a> State<'a> {
         }
     }
 
-    /// Opens all that rests on v, which is about to turn, and takes the cursor back to the lowest
-    /// of it.
+    /// Opens all that rests on v, which is about to turn.
     fn reopen(&mut self, v: usize) {
         self.reopened.clear();
-        self.tried = 0;
         self.open_resting_on(v);
         let mut head = 0;
         while let Some(&w) = self.reopened.get(head) {
             head += 1;
             self.open_resting_on(w as usize);
         }
-        let lowest = self.reopened.iter().map(|&u| self.game.priorities[u as usize] as usize).min();
-        if let Some(priority) = lowest {
-            self.cursor = Cursor { priority, place: self.of_priority.heads[priority] };
+        for &u in &self.reopened {
+            let priority = self.game.priorities[u as usize] as usize;
+            self.lines.join(u as usize, priority);
+            self.low = self.low.min(priority);
         }
     }
 
