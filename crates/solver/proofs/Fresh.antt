@@ -13,19 +13,18 @@ use Rattle.justification.proofs.Started.{fresh-safe}
 use Rattle.reach.specs.Work.{section}
 use Rattle.reach.specs.Lists.{Filled}
 use Rattle.reach.specs.Build.{Built}
-use Rattle.reach.proofs.Sections.{section-filled}
 use Rattle.step.specs.State.{settledOf}
 use Rattle.solver.specs.Settling.{Settleable, SettledTo}
 use Rattle.solver.specs.Starting.{Openable, AllOpen, Answerable, AnsweredBy}
 
-module _ (owners priorities starts targets winners moves work : List ℕ) (a : Answerable owners priorities starts targets winners moves work) {work1 : List ℕ} (long1 : length work1 ≡ length work) (zero1 : Filled work1 0) where
+module _ (owners priorities starts targets winners moves work : List ℕ) (a : Answerable owners priorities starts targets winners moves work) where
   level : length priorities ≡ length owners
   level = a .well-formed .level
 
-  pub openable : Openable priorities winners work1
-  openable = record { winners-long = a .winners-long ∙ sym level; work-long = (long1 ∙ a .work-long) ∙ ap (λ (n : ℕ). 4 * n) (sym level) }
+  pub openable : Openable priorities winners work
+  openable = record { winners-long = a .winners-long ∙ sym level; work-long = a .work-long ∙ ap (λ (n : ℕ). 4 * n) (sym level) }
 
-  module _ {winners2 work2 : List ℕ} (o : AllOpen priorities winners work1 winners2 work2) where
+  module _ {winners2 work2 : List ℕ} (o : AllOpen priorities winners work winners2 work2) where
     safe : Safe (gameOf owners priorities starts targets) (markOf winners2) (moveOf moves) (settledOf (length owners) work2)
     unfolding settledOf
     safe =
@@ -37,9 +36,7 @@ module _ (owners priorities starts targets winners moves work : List ℕ) (a : A
         unsettled v e = omega arith
 
     unmarked : Filled (section 1 (length owners) work2) 0
-    unmarked =
-        subst (λ (x : List ℕ). Filled x 0) (sym (subst (λ (n : ℕ). section 1 n work2 ≡ section 1 n work1) level (o .marks)))
-        (section-filled (length owners) work1 (long1 ∙ a .work-long) zero1 1 (omega arith))
+    unmarked = subst (λ (n : ℕ). Filled (section 1 n work2) 0) level (o .unmarked)
 
     pub settleable : {heads nexts sources heads′ nexts′ sources′ : List ℕ} → Built (length owners) starts targets heads nexts sources heads′ nexts′ sources′ → Settleable owners priorities starts targets heads′ nexts′ sources′ winners2 moves work2
     settleable b =
@@ -49,7 +46,7 @@ module _ (owners priorities starts targets winners moves work : List ℕ) (a : A
                 well-formed = a .well-formed;
                 winners-long = o .room ∙ a .winners-long;
                 moves-long = a .moves-long;
-                work-long = o .long ∙ (long1 ∙ a .work-long);
+                work-long = o .long ∙ a .work-long;
                 unmarked = unmarked;
                 safe = safe;
               };
@@ -63,5 +60,5 @@ module _ (owners priorities starts targets winners moves work : List ℕ) (a : A
           winners-kept = t .winners-long ∙ (sym (room-is winners2) ∙ (o .room ∙ room-is winners));
           moves-kept = t .moves-long;
           accepted = t .accepted;
-          zeroed = record { long = long4 ∙ (t .work-long ∙ (o .long ∙ long1)); zero = zero4 .all };
+          zeroed = record { long = long4 ∙ (t .work-long ∙ o .long); zero = zero4 .all };
         }

@@ -1,6 +1,7 @@
--- The vertices below v are open, with their own parity's marks.
+-- The vertices below v are open, with their own parity's marks, and not marked for a closure.
 use Prim.Native.Nat.{ℕ, _+_, _*_, _<_, _≤_}
 use mathlib.Core.Path.{_≡_, refl, sym, ap, subst, _∙_}
+use mathlib.Core.Logic.{_≢_}
 use mathlib.Core.List.{List}
 use native.Mathlib.Omega.{arith}
 use native.Mathlib.Decide.{ℕ-discrete}
@@ -18,7 +19,7 @@ pub record Opening (priorities winners work winners′ work′ : List ℕ) (v : 
   pub long : length work′ ≡ length work
   pub mark : (u : ℕ) → u < v → markOf winners′ u ≡ parityOf (getD priorities u 0)
   pub flag : (u : ℕ) → u < v → getD (section 0 (length priorities) work′) u 0 ≡ 1
-  pub marks : section 1 (length priorities) work′ ≡ section 1 (length priorities) work
+  pub unmarked : (u : ℕ) → u < v → getD (section 1 (length priorities) work′) u 0 ≡ 0
 
 pub opening-none : {priorities winners work : List ℕ} → Opening priorities winners work winners work 0
 opening-none =
@@ -27,31 +28,44 @@ opening-none =
       long = refl;
       mark = λ u l. absurd (not-suc-le-zero l);
       flag = λ u l. absurd (not-suc-le-zero l);
-      marks = refl;
+      unmarked = λ u l. absurd (not-suc-le-zero l);
     }
 
-pub opening-more : (priorities winners work winners₁ work₁ winners₂ : List ℕ) (v p : ℕ) → Openable priorities winners work → v < length priorities → Opening priorities winners work winners₁ work₁ v → p ≡ parityOf (getD priorities v 0) → MarkSet winners₁ winners₂ v p → Opening priorities winners work winners₂ (set work₁ v 1) (v + 1)
+pub opening-more : (priorities winners work winners₁ work₁ winners₂ : List ℕ) (v p : ℕ) → Openable priorities winners work → v < length priorities → Opening priorities winners work winners₁ work₁ v → p ≡ parityOf (getD priorities v 0) → MarkSet winners₁ winners₂ v p → Opening priorities winners work winners₂ (set (set work₁ v 1) (length priorities + v) 0) (v + 1)
 opening-more priorities winners work winners₁ work₁ winners₂ v p a l o e m =
-    let n = length priorities in
-    let w : length work₁ ≡ 4 * length priorities = o .long ∙ a .work-long in
-    let st : Stored n 0 v 1 work₁ (set work₁ v 1) = stored 0 v w (omega arith) (omega arith) l in
     record {
       room = m .room ∙ o .room;
-      long = st .long ∙ o .long;
-      mark = λ u h. elim (ℕ-discrete u v) [ yes q ↦ ap (markOf winners₂) q ∙ (m .here ∙ (e ∙ ap (λ (x : ℕ). parityOf (getD priorities x 0)) (sym q))) | no ne ↦ m .other u ne ∙ o .mark u (omega arith) ];
-      flag = λ u h. ap (λ (x : List ℕ). getD x u 0) (st .here) ∙ elim (ℕ-discrete u v) [ yes q ↦ at u q (subst (λ (k : ℕ). v < k) (sym (section-long n work₁ w 0 (omega arith))) l) | no ne ↦ getD-set-other (section 0 n work₁) v u 1 0 ne ∙ o .flag u (omega arith) ];
-      marks = st .other 1 (omega arith) (omega arith) ∙ o .marks;
+      long = cleared .long ∙ (opened .long ∙ o .long);
+      mark = λ u h. elim (ℕ-discrete u v) [ yes q ↦ subst (λ (x : ℕ). markOf winners₂ x ≡ parityOf (getD priorities x 0)) (sym q) (m .here ∙ e) | no ne ↦ m .other u ne ∙ o .mark u (omega arith) ];
+      flag = λ u h. ap (λ (x : List ℕ). getD x u 0) (cleared .other 0 (omega arith) (omega arith) ∙ opened .here) ∙ here 0 1 u (omega arith) (λ ne. o .flag u (omega arith)) (ℕ-discrete u v);
+      unmarked =
+          λ u h.
+          ap (λ (x : List ℕ). getD x u 0) (cleared .here ∙ ap (λ (x : List ℕ). set x v 0) (opened .other 1 (omega arith) (omega arith)))
+          ∙ here 1 0 u (omega arith) (λ ne. o .unmarked u (omega arith)) (ℕ-discrete u v);
     }
   where
-    at : (u : ℕ) → u ≡ v → v < length (section 0 (length priorities) work₁) → getD (set (section 0 (length priorities) work₁) v 1) u 0 ≡ 1
-    at u q h = ap (λ (k : ℕ). getD (set (section 0 (length priorities) work₁) v 1) k 0) q ∙ getD-set-same (section 0 (length priorities) work₁) v 1 0 h
+    long₁ : length work₁ ≡ 4 * length priorities
+    long₁ = o .long ∙ a .work-long
 
-pub opening-all : (priorities winners work winners′ work′ : List ℕ) (v : ℕ) → length priorities ≤ v → Opening priorities winners work winners′ work′ v → AllOpen priorities winners work winners′ work′
-opening-all priorities winners work winners′ work′ v l o =
+    opened : Stored (length priorities) 0 v 1 work₁ (set work₁ v 1)
+    opened = stored 0 v long₁ (omega arith) (omega arith) l
+
+    cleared : Stored (length priorities) 1 v 0 (set work₁ v 1) (set (set work₁ v 1) (length priorities + v) 0)
+    cleared = stored 1 v (opened .long ∙ long₁) (omega arith) (omega arith) l
+
+    -- a cell of section k, after a store of x at v, if the cell at u had x before
+    here : (k x u : ℕ) → k < 4 → (u ≢ v → getD (section k (length priorities) work₁) u 0 ≡ x) → Dec (u ≡ v) → getD (set (section k (length priorities) work₁) v x) u 0 ≡ x
+    here k x u h f (yes q) =
+        ap (λ (i : ℕ). getD (set (section k (length priorities) work₁) v x) i 0) q
+        ∙ getD-set-same (section k (length priorities) work₁) v x 0 (subst (λ (j : ℕ). v < j) (sym (section-long (length priorities) work₁ long₁ k h)) l)
+    here k x u h f (no ne) = getD-set-other (section k (length priorities) work₁) v u x 0 ne ∙ f ne
+
+pub opening-all : (priorities winners work winners′ work′ : List ℕ) (v : ℕ) → Openable priorities winners work → length priorities ≤ v → Opening priorities winners work winners′ work′ v → AllOpen priorities winners work winners′ work′
+opening-all priorities winners work winners′ work′ v a l o =
     record {
       room = o .room;
       long = o .long;
       mark = λ u h. o .mark u (omega arith);
       flag = λ u h. o .flag u (omega arith);
-      marks = o .marks;
+      unmarked = record { all = λ u h. o .unmarked u (omega (arith, section-long (length priorities) work′ (o .long ∙ a .work-long) 1 (omega arith))) };
     }

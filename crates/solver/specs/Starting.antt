@@ -9,19 +9,20 @@ use Rattle.game.specs.Answer.{markRoom, markOf, moveOf}
 use Rattle.game.specs.Buffers.{Zeroed}
 use Rattle.winning.specs.Answer.{Accepted}
 use Rattle.reach.specs.Work.{section}
+use Rattle.reach.specs.Lists.{Filled}
 
 -- lists of the right lengths
 pub record Openable (priorities winners work : List ℕ) : Type 0 where
   pub winners-long : markRoom winners ≡ length priorities
   pub work-long : length work ≡ 4 * length priorities
 
--- every vertex is open, with the mark of its own priority's parity, and the closure's marks are as before
+-- every vertex is open, with the mark of its own priority's parity, and none is marked for a closure
 pub record AllOpen (priorities winners work winners′ work′ : List ℕ) : Type 0 where
   pub room : markRoom winners′ ≡ markRoom winners
   pub long : length work′ ≡ length work
   pub mark : (v : ℕ) → v < length priorities → markOf winners′ v ≡ parityOf (getD priorities v 0)
   pub flag : (v : ℕ) → v < length priorities → getD (section 0 (length priorities) work′) v 0 ≡ 1
-  pub marks : section 1 (length priorities) work′ ≡ section 1 (length priorities) work
+  pub unmarked : Filled (section 1 (length priorities) work′) 0
 
 module _ (owners priorities starts targets winners moves work : List ℕ) where
   -- 1 to 8 do not apply

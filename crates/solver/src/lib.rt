@@ -52,7 +52,6 @@ fn answer(
         &mut nexts,
         &mut sources,
     );
-    fill(work, 0);
     open_all(priorities, winners, work);
     settle(
         owners,
@@ -66,7 +65,7 @@ fn answer(
         moves,
         work,
     );
-    fill(work, 0); // handed back all zero
+    fill(work, 0);
 }
 
 // Writes winners and moves of the game, or gives the first of 1 to 8 that applies.

@@ -1,4 +1,4 @@
-// The start with nothing kept: every vertex is open, with the mark of its own priority's parity.
+// The start with nothing kept: every vertex is open, with the mark of its own priority's parity, and none is marked for a closure.
 use game::answer::set_mark;
 use player::Player;
 ghost use Rattle.solver.specs.Starting.{Openable, AllOpen};
@@ -12,6 +12,7 @@ pub fn open_all(priorities: &[u8], winners: &mut [u8], work: &mut [u16])
     while v < n {
         set_mark(winners, v, Player::of_priority(priorities[v]).bit);
         work[v] = 1;
+        work[n + v] = 0;
         v += 1;
     }
 }

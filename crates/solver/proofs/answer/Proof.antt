@@ -1,8 +1,9 @@
--- The start with nothing kept is safe, and what the engine leaves is the answer (Fresh).
-use borrow.Author.Needs.{needs}
-use Rattle.solver.proofs.Fresh.{openable, settleable, answered}
-use Rattle.reach.proofs.Tables.{buildable}
+-- `solver::answer` meets its contract: the start with nothing kept is safe, and what the engine leaves is the answer (Fresh).
+-- Assumes nothing.
 use mathlib.Core.Path.{refl}
+use Rattle.reach.proofs.Tables.{buildable}
+use Rattle.solver.proofs.Fresh.{openable, settleable, answered}
+use borrow.Author.Needs.{needs}
 use Rattle.solver.proofs.answer.Statement.{statement}
 use Rattle.solver.proofs.answer.Tie as tie
 
@@ -16,13 +17,10 @@ slice-aggregate-predecessors-3 : tie.Need-slice-aggregate-predecessors-3
 slice-aggregate-predecessors-3 c = search needs
 
 predecessors-requires : tie.Need-predecessors-requires
-predecessors-requires c κs = buildable _ _ _ _ _ _ _ ((c .before .before .before .before .before .before .before .before .before .before .pre) .well-formed) refl refl refl
-
-fill-requires : tie.Need-fill-requires
-fill-requires c κs = search needs
+predecessors-requires c κs = buildable _ _ _ _ _ _ _ (c .before .before .before .before .before .before .before .before .before .before .pre .well-formed) refl refl refl
 
 open-all-requires : tie.Need-open-all-requires
-open-all-requires c κs = openable _ _ _ _ _ _ _ (c .before .before .before .before .before .before .before .before .before .before .before .before .before .before .before .before .before .before .before .before .pre) (c .before .before .before .before .fill .ensures .0) (c .before .before .before .before .fill .ensures .1)
+open-all-requires c κs = search needs
 
 slice-aggregate-settle : tie.Need-slice-aggregate-settle
 slice-aggregate-settle c = search needs
@@ -34,22 +32,27 @@ slice-aggregate-settle-3 : tie.Need-slice-aggregate-settle-3
 slice-aggregate-settle-3 c = search needs
 
 settle-requires : tie.Need-settle-requires
-settle-requires c κs = settleable _ _ _ _ _ _ _ (c .before .before .before .before .before .before .before .before .before .before .before .before .before .before .before .before .before .before .before .before .before .before .before .before .before .before .before .before .before .before .before .pre) (c .before .before .before .before .before .before .before .before .before .before .before .before .before .before .before .fill .ensures .0) (c .before .before .before .before .before .before .before .before .before .before .before .before .before .before .before .fill .ensures .1) (c .before .before .before .before .before .before .before .before .before .before .open-all .ensures) (c .before .before .before .before .before .before .before .before .before .before .before .before .before .before .before .before .before .before .before .before .predecessors .ensures)
+settle-requires c κs = settleable _ _ _ _ _ _ _ (c .before .before .before .before .before .before .before .before .before .before .before .before .before .before .before .before .before .before .before .before .before .before .before .before .before .before .before .pre) (c .before .before .before .before .before .before .before .before .before .before .open-all .ensures) (c .before .before .before .before .before .before .before .before .before .before .before .before .before .before .before .before .predecessors .ensures)
 
-fill-requires-2 : tie.Need-fill-requires-2
-fill-requires-2 c κs = search needs
+fill-requires : tie.Need-fill-requires
+fill-requires c κs = search needs
+
+-- what stands in the lists at the end
+abbrev done : tie.Need-returns
+done c =
+    answered _ _ _ _ _ _ _ (c .before .before .before .before .before .before .before .before .before .before .before .before .before .before .before .before .before .before .before .before .before .before .before .before .before .before .before .before .before .before .before .before .before .before .before .before .before .before .pre) (c .before .before .before .before .before .before .before .before .before .before .before .before .before .before .before .before .before .before .before .before .before .open-all .ensures) (c .before .before .before .before .before .before .before .before .before .before .settle .ensures) (c .before .before .fill .ensures .0) (c .before .before .fill .ensures .1)
 
 same-length : tie.Need-same-length
-same-length c = answered _ _ _ _ _ _ _ (c .before .before .before .before .before .before .before .before .before .before .before .before .before .before .before .before .before .before .before .before .before .before .before .before .before .before .before .before .before .before .before .before .before .before .before .before .before .before .before .before .before .before .pre) (c .before .before .before .before .before .before .before .before .before .before .before .before .before .before .before .before .before .before .before .before .before .before .before .before .before .before .fill .ensures .0) (c .before .before .before .before .before .before .before .before .before .before .before .before .before .before .before .before .before .before .before .before .before .before .before .before .before .before .fill .ensures .1) (c .before .before .before .before .before .before .before .before .before .before .before .before .before .before .before .before .before .before .before .before .before .open-all .ensures) (c .before .before .before .before .before .before .before .before .before .before .settle .ensures) (c .before .before .fill2 .ensures .0) (c .before .before .fill2 .ensures .1) .winners-kept
+same-length c = done c .winners-kept
 
 same-length-2 : tie.Need-same-length-2
-same-length-2 c = answered _ _ _ _ _ _ _ (c .before .before .before .before .before .before .before .before .before .before .before .before .before .before .before .before .before .before .before .before .before .before .before .before .before .before .before .before .before .before .before .before .before .before .before .before .before .before .before .before .before .before .pre) (c .before .before .before .before .before .before .before .before .before .before .before .before .before .before .before .before .before .before .before .before .before .before .before .before .before .before .fill .ensures .0) (c .before .before .before .before .before .before .before .before .before .before .before .before .before .before .before .before .before .before .before .before .before .before .before .before .before .before .fill .ensures .1) (c .before .before .before .before .before .before .before .before .before .before .before .before .before .before .before .before .before .before .before .before .before .open-all .ensures) (c .before .before .before .before .before .before .before .before .before .before .settle .ensures) (c .before .before .fill2 .ensures .0) (c .before .before .fill2 .ensures .1) .moves-kept
+same-length-2 c = done c .moves-kept
 
 same-length-3 : tie.Need-same-length-3
-same-length-3 c = answered _ _ _ _ _ _ _ (c .before .before .before .before .before .before .before .before .before .before .before .before .before .before .before .before .before .before .before .before .before .before .before .before .before .before .before .before .before .before .before .before .before .before .before .before .before .before .before .before .before .before .pre) (c .before .before .before .before .before .before .before .before .before .before .before .before .before .before .before .before .before .before .before .before .before .before .before .before .before .before .fill .ensures .0) (c .before .before .before .before .before .before .before .before .before .before .before .before .before .before .before .before .before .before .before .before .before .before .before .before .before .before .fill .ensures .1) (c .before .before .before .before .before .before .before .before .before .before .before .before .before .before .before .before .before .before .before .before .before .open-all .ensures) (c .before .before .before .before .before .before .before .before .before .before .settle .ensures) (c .before .before .fill2 .ensures .0) (c .before .before .fill2 .ensures .1) .zeroed .long
+same-length-3 c = done c .zeroed .long
 
 returns : tie.Need-returns
-returns c = answered _ _ _ _ _ _ _ (c .before .before .before .before .before .before .before .before .before .before .before .before .before .before .before .before .before .before .before .before .before .before .before .before .before .before .before .before .before .before .before .before .before .before .before .before .before .before .before .before .before .before .pre) (c .before .before .before .before .before .before .before .before .before .before .before .before .before .before .before .before .before .before .before .before .before .before .before .before .before .before .fill .ensures .0) (c .before .before .before .before .before .before .before .before .before .before .before .before .before .before .before .before .before .before .before .before .before .before .before .before .before .before .fill .ensures .1) (c .before .before .before .before .before .before .before .before .before .before .before .before .before .before .before .before .before .before .before .before .before .open-all .ensures) (c .before .before .before .before .before .before .before .before .before .before .settle .ensures) (c .before .before .fill2 .ensures .0) (c .before .before .fill2 .ensures .1)
+returns c = done c
 
 pub answer-spec : {M : Type 1} → statement M
 answer-spec =
@@ -59,13 +62,12 @@ answer-spec =
     slice-aggregate-predecessors-2
     slice-aggregate-predecessors-3
     predecessors-requires
-    fill-requires
     open-all-requires
     slice-aggregate-settle
     slice-aggregate-settle-2
     slice-aggregate-settle-3
     settle-requires
-    fill-requires-2
+    fill-requires
     same-length
     same-length-2
     same-length-3

@@ -1,21 +1,23 @@
--- The vertices below v are open (Opening).
-use borrow.Author.Needs.{needs}
-use Rattle.solver.proofs.Opening.{Opening, opening-none, opening-more, opening-all}
+-- `solver::start::open_all` meets its contract. The invariant, `Opening`: the vertices below v are open, and not marked for a closure.
+-- Assumes nothing.
+use Prim.Native.Nat.{_-_, _<_}
+use native.Mathlib.Omega.{arith}
 use lib.ListN.{length, length-set}
 use mathlib.Core.Path.{_≡_, refl, _∙_}
-use Prim.Native.Nat.{_≤_, _-_}
-use native.Mathlib.Omega.{arith}
+use Rattle.game.specs.Answer.{markRoom}
+use Rattle.solver.proofs.Opening.{Opening, opening-none, opening-more, opening-all}
+use borrow.Author.Needs.{needs}
 use Rattle.solver.proofs.start.open_all.Statement.{statement}
 use Rattle.solver.proofs.start.open_all.Tie as tie
 
 abbrev Inv-loop : tie.InvT-loop
-Inv-loop priorities winners₀ work₀ n v₀ winners work v = (v ≤ length priorities) × (length winners ≡ length winners₀) × (length work ≡ length work₀) × Opening priorities winners₀ work₀ winners work v
+Inv-loop priorities winners₀ work₀ n v₀ winners work v = Opening priorities winners₀ work₀ winners work v
 
 abbrev μ-loop : tie.MeasureT-loop
 μ-loop priorities winners₀ work₀ n v₀ winners work v = length priorities - v
 
 loop-holds : tie.Need-loop-holds Inv-loop μ-loop
-loop-holds c = (search needs, refl, refl, opening-none)
+loop-holds c = opening-none
 
 shared-slice-read-of-priority : tie.Need-shared-slice-read-of-priority Inv-loop μ-loop
 shared-slice-read-of-priority c = search needs
@@ -24,13 +26,22 @@ of-priority-requires : tie.Need-of-priority-requires Inv-loop μ-loop
 of-priority-requires c κs = search needs
 
 set-mark-requires : tie.Need-set-mark-requires Inv-loop μ-loop
-set-mark-requires c κs = omega (arith, c .before .before .before .before .loop .inv .3 .room, c .before .before .before .before .before .before .before .before .pre .winners-long)
+set-mark-requires c κs = omega (arith, c .before .before .before .loop-test .taken, c .before .before .before .before .loop .inv .room, c .before .before .before .before .before .before .before .before .pre .winners-long)
 
 mul-work : tie.Need-mul-work Inv-loop μ-loop
-mul-work c = omega (arith, c .before .before .before .before .before .before .before .before .before .before .before .good, c .before .before .before .before .before .before .before .before .before .before .before .pre .work-long)
+mul-work c = omega (arith, c .before .before .before .before .before .before .loop-test .taken, c .before .before .before .before .before .before .before .before .before .before .before .good, c .before .before .before .before .before .before .before .before .before .before .before .pre .work-long)
 
 slice-write-work : tie.Need-slice-write-work Inv-loop μ-loop
-slice-write-work c = omega (arith, c .before .before .before .before .before .before .before .loop .inv .2, c .before .before .before .before .before .before .before .before .before .before .before .pre .work-long)
+slice-write-work c = omega (arith, c .before .before .before .before .before .before .loop-test .taken, c .before .before .before .before .before .before .before .loop .inv .long, c .before .before .before .before .before .before .before .before .before .before .before .pre .work-long)
+
+add-work : tie.Need-add-work Inv-loop μ-loop
+add-work c = omega (arith, c .before .before .before .before .before .before .loop-test .taken, c .before .before .before .before .before .before .before .before .before .before .before .good, c .before .before .before .before .before .before .before .before .before .before .before .pre .work-long)
+
+mul-work-2 : tie.Need-mul-work-2 Inv-loop μ-loop
+mul-work-2 c = omega (arith, c .before .before .before .before .before .before .loop-test .taken, c .before .before .before .before .before .before .before .before .before .before .before .good, c .before .before .before .before .before .before .before .before .before .before .before .pre .work-long)
+
+slice-write-work-2 : tie.Need-slice-write-work-2 Inv-loop μ-loop
+slice-write-work-2 c = let l : length (c .before .before .before .before .before .before .before .loop .work) ≡ _ = c .before .before .before .before .before .before .before .loop .inv .long in simp length-set (omega (arith, c .before .before .before .before .before .before .loop-test .taken, c .before .before .before .before .before .before .before .loop .inv .long, c .before .before .before .before .before .before .before .before .before .before .before .pre .work-long))
 
 add-v : tie.Need-add-v Inv-loop μ-loop
 add-v c = search needs
@@ -39,16 +50,17 @@ loop-less : tie.Need-loop-less Inv-loop μ-loop
 loop-less c = search needs
 
 loop-again : tie.Need-loop-again Inv-loop μ-loop
-loop-again c = (search needs, c .before .before .set-mark .kept .0 ∙ c .before .before .before .before .before .before .before .loop .inv .1, simp length-set (c .before .before .before .before .before .before .before .loop .inv .2), opening-more _ _ _ _ _ _ _ _ (c .before .before .before .before .before .before .before .before .before .before .before .pre) (search needs) (c .before .before .before .before .before .before .before .loop .inv .3) (c .before .before .before .of-priority .ensures) (c .before .before .set-mark .ensures))
+loop-again c = opening-more _ _ _ _ _ _ _ _ (c .before .before .before .before .before .before .before .before .before .before .before .pre) (c .before .before .before .before .before .before .loop-test .taken) (c .before .before .before .before .before .before .before .loop .inv) (c .before .before .before .of-priority .ensures) (c .before .before .set-mark .ensures)
 
 same-length : tie.Need-same-length Inv-loop μ-loop
-same-length c = c .before .loop .inv .1
+unfolding markRoom
+same-length c = c .before .loop .inv .room
 
 same-length-2 : tie.Need-same-length-2 Inv-loop μ-loop
-same-length-2 c = c .before .loop .inv .2
+same-length-2 c = c .before .loop .inv .long
 
 returns : tie.Need-returns Inv-loop μ-loop
-returns c = opening-all _ _ _ _ _ _ (search needs) (c .before .loop .inv .3)
+returns c = opening-all _ _ _ _ _ _ (c .before .before .before .before .before .pre) (c .loop-test .left) (c .before .loop .inv)
 
 pub open-all-spec : {M : Type 1} → statement M
 open-all-spec =
@@ -62,6 +74,9 @@ open-all-spec =
     set-mark-requires
     mul-work
     slice-write-work
+    add-work
+    mul-work-2
+    slice-write-work-2
     add-v
     loop-less
     loop-again
