@@ -1,7 +1,7 @@
 -- "A player is Even (0) or Odd (1), each the opponent of the other." A player is the number 0 or 1, so that omega reads it.
-use Prim.Native.Nat.{ℕ, zero, suc, _-_, _<_, _%_}
+use Prim.Native.Nat.{ℕ, _-_, _<_, _%_}
 use mathlib.Core.Path.{_≡_}
-use mathlib.Core.Logic.{_⊎_, inl, inr, _≢_}
+use mathlib.Core.Logic.{_≢_}
 use native.Mathlib.Omega.{arith}
 
 abbrev pub even : ℕ
@@ -21,11 +21,6 @@ opponentOf p = 1 - p
 -- the player whose parity a priority has
 abbrev pub parityOf : ℕ → ℕ
 parityOf k = k % 2
-
--- a player is one of two
-pub one-of-two : (p : ℕ) → IsPlayer p → (p ≡ even) ⊎ (p ≡ odd)
-one-of-two zero l = inl (omega arith)
-one-of-two (suc p) l = inr (omega arith)
 
 -- the opponent of the opponent is the player himself
 pub opponent-involution : (p : ℕ) → IsPlayer p → opponentOf (opponentOf p) ≡ p

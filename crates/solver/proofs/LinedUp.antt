@@ -1,5 +1,5 @@
 -- Before the engine runs: the open vertices line up in section 3, which nothing of the state reads.
-use Prim.Native.Nat.{ℕ, _-_, _<_}
+use Prim.Native.Nat.{ℕ, _-_}
 use mathlib.Core.Path.{_≡_, sym, ap, subst, _∙_}
 use mathlib.Core.List.{List}
 use native.Mathlib.Omega.{arith}
@@ -7,7 +7,6 @@ use lib.ListN.{length, getD, replicate, getD-replicate}
 use Rattle.game.specs.Tables.{gameOf}
 use Rattle.game.specs.Answer.{markOf, moveOf}
 use Rattle.justification.specs.Safe.{Safe}
-use Rattle.reach.specs.Work.{section}
 use Rattle.reach.specs.Lists.{nil, Filled}
 use Rattle.pick.specs.Moves.{Fillable, FilledIn}
 use Rattle.step.specs.State.{settledOf, KeptSet}

@@ -1,9 +1,9 @@
 -- The engine's loop: a state with its lines, carried from the start; when nothing is open the answer is accepted.
-use Prim.Native.Nat.{ℕ, _<_}
+use Prim.Native.Nat.{ℕ}
 use mathlib.Core.Path.{_≡_, refl, sym, _∙_}
 use mathlib.Core.List.{List}
 use native.Mathlib.Omega.{arith}
-use lib.ListN.{length, getD}
+use lib.ListN.{length}
 use Rattle.game.specs.Tables.{gameOf}
 use Rattle.game.specs.Answer.{markOf, moveOf}
 use Rattle.justification.proofs.Finished.{finished}

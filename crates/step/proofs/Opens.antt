@@ -1,11 +1,11 @@
 -- Opening a vertex: it joins its line, or waits there already.
-use Prim.Native.Nat.{ℕ, _<_}
+use Prim.Native.Nat.{ℕ}
 use mathlib.Core.Path.{_≡_, refl, sym, ap, subst, _∙_}
 use mathlib.Core.Logic.{_≢_}
 use mathlib.Core.List.{List}
 use native.Mathlib.Omega.{arith}
 use native.Mathlib.Decide.{ℕ-discrete}
-use lib.ListN.{length, getD, set}
+use lib.ListN.{getD, set}
 use Rattle.reach.specs.Lists.{nil}
 use Rattle.reach.specs.Work.{section}
 use Rattle.reach.proofs.Sections.{section-read}

@@ -13,8 +13,7 @@ use Rattle.reach.specs.Work.{section}
 use Rattle.reach.specs.Queue.{SeedableIn, PushedIn, ClosableIn, ClosedIn, ClearableIn, ClearedIn}
 use Rattle.reach.proofs.Sections.{section-long}
 use Rattle.reach.proofs.Queues.{fresh-in, pushed-queued}
-use Rattle.reach.specs.Lists.{nil}
-use Rattle.pick.specs.Lines.{Waits, Lines, Settles}
+use Rattle.pick.specs.Lines.{Waits, Lines}
 use Rattle.pick.specs.Moves.{Left}
 use Rattle.pick.proofs.Leaving.{lines-left}
 use Rattle.step.specs.Parts.{FlagSet, Keepable, Reopenable, Reopened}

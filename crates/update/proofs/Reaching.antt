@@ -3,13 +3,8 @@ use Prim.Native.Nat.{ℕ, _<_}
 use mathlib.Core.Path.{_≡_, refl, sym, subst}
 use mathlib.Core.Logic.{_↔_}
 use mathlib.Core.List.{List}
-use native.Mathlib.Decide.{decLt}
 use Rattle.game.specs.Game.{Game, Listed, Edge}
 use Rattle.winning.specs.Walk.{Walk, stay, step}
-use Rattle.winning.proofs.Edges.{decide-edge}
-use Rattle.winning.proofs.Reachable.{decide-walk}
-use Rattle.winning.proofs.Reflect.{tests-decide, tests-dec, tests-map}
-use Rattle.winning.proofs.Search.{tests-some}
 use Rattle.justification.specs.Start.{Agree, Closed}
 use Rattle.update.specs.Amended.{Differs, Reaches, Number}
 use Rattle.update.proofs.Differing.{decide-differs, agree-of}
@@ -61,24 +56,3 @@ module _ (g h : Game) (size : g .n ≡ h .n) where
 
   pub kept-closed : Closed h (λ v. ¬ Reaches h g h v)
   kept-closed v w k e r = k (reaches-on e r)
-
-  -- whether a vertex reaches is decided
-  pub decide-reaches : (v : ℕ) → v < g .n → Dec (Reaches h g h v)
-  decide-reaches v l =
-      tests-dec
-      (tests-map (λ s. record { to = s .0; vertex = s .1 .below; differs = s .1 .has .0; path = s .1 .has .1 .1 })
-      (λ r. (r .to, record { below = r .vertex; has = (r .differs, (r .vertex, r .path)) }))
-      (tests-some P _ (λ x. tests-decide (decided x)) (g .n)))
-    where
-      P : ℕ → Type 0
-      P x = Differs g h x × ((x < g .n) × Walk (Edge h) v x)
-
-      walk : (x : ℕ) → Dec (x < g .n) → Dec ((x < g .n) × Walk (Edge h) v x)
-      walk x (no k) = no (λ t. k (t .0))
-      walk x (yes m) = elim (decide-walk (g .n) (Edge h) (λ a b s. (subst (λ (k : ℕ). a < k) (sym size) (s .from), subst (λ (k : ℕ). b < k) (sym size) (s .to))) (λ a b p q. decide-edge h a b) v x l m) [ yes w ↦ yes (m, w) | no k ↦ no (λ t. k (t .1)) ]
-
-      decided : (x : ℕ) → Dec (P x)
-      decided x = elim (decide-differs g h x) [
-        | yes d ↦ elim (walk x (decLt x (g .n))) [ yes w ↦ yes (d, w) | no k ↦ no (λ t. k (t .1)) ]
-        | no k ↦ no (λ t. k (t .0))
-      ]

@@ -1,6 +1,5 @@
 -- Which vertices an amendment reaches: those with a path to a differing vertex; "a path of no steps counts".
 use Prim.Native.Nat.{ℕ, suc, _<_}
-use mathlib.Core.Path.{_≡_}
 use mathlib.Core.Logic.{_≢_}
 use Rattle.game.specs.Game.{Game, Edge}
 use Rattle.winning.specs.Walk.{Walk}

@@ -11,4 +11,3 @@ pub mod Lasso
 pub mod NobodyTwice
 pub mod Rows
 pub mod Verdict
-pub mod Examples

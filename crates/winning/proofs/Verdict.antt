@@ -4,7 +4,7 @@ use mathlib.Core.Path.{_≡_, refl}
 use mathlib.Core.Logic.{_⊎_, inl, inr, _≢_}
 use native.Mathlib.Nat.{le-refl}
 use Rattle.player.specs.Player.{IsPlayer, parityOf}
-use Rattle.refusal.specs.Row.{Said, refused, Gives, gives-unique}
+use Rattle.refusal.specs.Row.{Gives}
 use Rattle.refusal.specs.Found.{Finds}
 use Rattle.game.specs.Game.{Game, Edge}
 use Rattle.winning.specs.Cycle.{Low}
@@ -103,7 +103,3 @@ module _ (g : Game) (mark move : ℕ → ℕ) where
   verdict-gives =
       let m : Matched (g .n) (answerRows g mark move) (answerTests g mark move) = row refl finds11 (row refl finds12 (row refl finds13 (row refl finds14 none))) in
       said-gives m
-
-  -- after a refusal nothing else can be said of the same answer
-  pub verdict-unique : (k x : ℕ) (s : Said) → Gives (answerRows g mark move) (refused k x) → Gives (answerRows g mark move) s → refused k x ≡ s
-  verdict-unique k x s f h = gives-unique (answerRows g mark move) k x s f h

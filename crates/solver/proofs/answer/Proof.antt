@@ -2,7 +2,7 @@
 -- Assumes nothing.
 use mathlib.Core.Path.{refl}
 use Rattle.reach.proofs.Tables.{buildable}
-use Rattle.solver.proofs.Fresh.{openable, settleable, answered}
+use Rattle.solver.proofs.Fresh.{settleable, answered}
 use borrow.Author.Needs.{needs}
 use Rattle.solver.proofs.answer.Statement.{statement}
 use Rattle.solver.proofs.answer.Tie as tie

@@ -1,8 +1,6 @@
 -- `step::turn::turn` meets its contract: the closure, the reopening and the stores one after the other (Turns).
 -- Assumes nothing.
 use native.Mathlib.Omega.{arith}
-use mathlib.Core.Path.{sym, _∙_}
-use Rattle.game.specs.Answer.{markRoom}
 use Rattle.step.proofs.Turns.{in-priorities, seedable, closable, reopenable, clearable, mark-room, keepable, long-kept, turned}
 use borrow.Author.Needs.{needs}
 use Rattle.step.proofs.turn.turn.Statement.{statement}
