@@ -50,6 +50,38 @@ impl Buffers {
     }
 }
 
+/// The reader's tables.
+pub struct Lent {
+    owners: Vec<u8>,
+    priorities: Vec<u8>,
+    starts: Vec<u16>,
+    targets: Vec<u16>,
+}
+
+impl Lent {
+    pub fn new() -> Self {
+        Lent {
+            owners: vec![0; 2_048],
+            priorities: vec![0; 2_048],
+            starts: vec![0; 2_049],
+            targets: vec![0; 16_384],
+        }
+    }
+
+    /// Fills everything with content that no call leaves.
+    pub fn spoil(&mut self) {
+        self.owners.fill(0xA5);
+        self.priorities.fill(0xA5);
+        self.starts.fill(0xA5A5);
+        self.targets.fill(0xA5A5);
+    }
+
+    pub fn read(&mut self, file: &[u8]) -> Result<(), String> {
+        let Lent { owners, priorities, starts, targets } = self;
+        succeeded(ffi::read(file, owners, priorities, starts, targets)).map(drop)
+    }
+}
+
 fn succeeded(said: Said) -> Result<u64, String> {
     match said.number {
         0 => Ok(said.value),

@@ -36,12 +36,15 @@ mod timing;
 
 use families::Family;
 use game::{Answer, Tables};
-use library::Buffers;
+use library::{Buffers, Lent};
 use prng::Prng;
 use std::process::ExitCode;
 use timing::{median, median_within, Time};
 
 const GAMES: u64 = 3;
+
+/// A file of 84 blocks: 2,048 vertices and 16,384 edges.
+const LARGEST: &[u8] = include_bytes!("../tests/listing/largest_84_blocks.game");
 
 const COLUMNS: [&str; 9] = [
     "family",
@@ -59,7 +62,8 @@ const COLUMNS: [&str; 9] = [
 const NOTES: &str = "\
 Milliseconds: of three games a family the worst, of each game the median of seven runs.
 Buffers are not cleared: before each run, outside the time, they are filled with other content.
-The Rust version tests the tables (1 to 7) as the library does; the other two methods do not.
+The Rust version tests the tables (1 to 7) too, by the second program's test; the other two
+methods do not.
 An update changes one vertex's owner: of a vertex that few reach, then of any; in brackets the
 vertices that are decided anew.";
 
@@ -84,6 +88,13 @@ fn main() -> ExitCode {
                 println!("{}: {what}", family.name());
                 return ExitCode::FAILURE;
             }
+        }
+    }
+    match median(&mut Lent::new(), Lent::spoil, |lent| lent.read(LARGEST)) {
+        Ok(time) => println!("\nread, the largest file: {time}"),
+        Err(what) => {
+            println!("read: {what}");
+            return ExitCode::FAILURE;
         }
     }
     println!("\n{NOTES}");
