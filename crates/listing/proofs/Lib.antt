@@ -8,3 +8,4 @@ pub mod Answers
 pub mod Whole
 pub mod Judging
 pub mod Filing
+pub mod Determined
