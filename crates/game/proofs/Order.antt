@@ -11,7 +11,7 @@ use Rattle.refusal.specs.declared.Found.the-variants.{At, Nowhere}
 use Rattle.refusal.specs.Found.{Finds, Scanned, scan-more, found-at, found-nowhere}
 use Rattle.game.specs.Tables.{nextOf, Placed}
 use Rattle.game.specs.Faults.{Descent, Fault7}
-use Rattle.game.proofs.Starts.{onward-from, stretch-of, stretch-length}
+use Rattle.game.proofs.Starts.{onward-from, stretch-of, stretch-length, stretch-place}
 
 -- somewhere in the stretch of u a target is not above the one before it
 pub record Unordered (starts targets : List ℕ) (u : ℕ) : Type 0 where
@@ -51,11 +51,7 @@ module _ (n : ℕ) (starts targets : List ℕ) (p : Placed n starts targets) whe
     order-found s = subst (λ (k : ℕ). Lowest (Fault7 n starts targets) (k + i)) (sym start) (lowest-found v i l s low)
 
     pub order-within : x + i < length targets
-    order-within =
-        let s = stretch-of n starts targets p v l in
-        let k : i < length (nextOf starts targets v) = low .holds .within in
-        let q : length (nextOf starts targets v) ≡ getD starts (v + 1) 0 - getD starts v 0 = stretch-length starts targets v s in
-        omega (arith, s .within)
+    order-within = rw start (stretch-place starts targets v i (low .holds .within))
 
 pub order-more : (starts targets : List ℕ) (v : ℕ) (r : List ℕ) (f : Found) → r ≡ nextOf starts targets v → f ≡ Nowhere → Finds (Descent r) f → Scanned (Unordered starts targets) v → Scanned (Unordered starts targets) (v + 1)
 order-more starts targets v r f e none d s =

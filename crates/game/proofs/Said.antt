@@ -1,4 +1,4 @@
--- What the test of the tables says when it has refused, and that nothing else satisfies its promise.
+-- What the test of the tables says when it has refused and when it has passed, and that nothing else satisfies its promise.
 use mathlib.Core.Path.{_≡_, refl, sym, subst, ap}
 use mathlib.Core.List.{List}
 use Rattle.refusal.specs.declared.Refusal.{Refusal}
@@ -11,6 +11,9 @@ use Rattle.game.specs.declared.tables.Tables.the-variants.{Passed, Refus
 
 pub refuses : (rows : List Row) {t : Tables} {r : Refusal} → t ≡ Refused r → First rows (numberOf (r .kind)) (r .place) → Gives rows (tablesSaid t)
 refuses rows e f = subst (λ (t : Tables). Gives rows (tablesSaid t)) (sym e) f
+
+pub tables-refused : (rows : List Row) {t : Tables} {r : Refusal} → t ≡ Refused r → Gives rows (tablesSaid t) → First rows (numberOf (r .kind)) (r .place)
+tables-refused rows e g = subst (λ (t : Tables). Gives rows (tablesSaid t)) e g
 
 pub tables-passed : (rows : List Row) {t : Tables} → t ≡ Passed → Gives rows (tablesSaid t) → None rows
 tables-passed rows e g = subst (λ (t : Tables). Gives rows (tablesSaid t)) e g

@@ -30,13 +30,16 @@ rising-more starts v some here r = record { rising = λ i l. elim (ℕ-discrete 
 pub rising-to : {starts : List ℕ} {v w : ℕ} → v ≡ w → Rising starts v → Rising starts w
 rising-to {starts} e r = subst (Rising starts) e r
 
+-- no start that is passed is below the one before
+not-below : (starts : List ℕ) (v b x : ℕ) → Rising starts v → x ≡ b + 1 → x < v → getD starts x 0 < getD starts b 0 → ⊥
+not-below starts v b x r e l h =
+    let up : getD starts b 0 ≤ getD starts x 0 = subst (λ (k : ℕ). getD starts b 0 ≤ getD starts k 0) (sym e) (r .rising b (omega arith)) in
+    omega arith
+
 -- row 4 applies at no place that is passed, but for the last
 clear : (starts targets : List ℕ) (v : ℕ) → getD starts 0 0 ≡ 0 → Rising starts v → (x : ℕ) → x < v → x + 1 ≢ length starts → Fault4 starts targets x → ⊥
 clear starts targets v z r x l ne (first e h) = h z
-clear starts targets v z r x l ne (below b e w h) =
-    let up : getD starts b 0 ≤ getD starts (b + 1) 0 = r .rising b (omega arith) in
-    let up′ : getD starts b 0 ≤ getD starts x 0 = subst (λ (k : ℕ). getD starts b 0 ≤ getD starts k 0) (sym e) up in
-    omega arith
+clear starts targets v z r x l ne (below b e w h) = not-below starts v b x r e l h
 clear starts targets v z r x l ne (last e h) = ne e
 
 pub first-found : (starts targets : List ℕ) → getD starts 0 0 ≢ 0 → Lowest (Fault4 starts targets) 0
@@ -52,10 +55,7 @@ last-found starts targets v z e r h =
 
 pub none-found : (starts targets : List ℕ) (v : ℕ) → getD starts 0 0 ≡ 0 → v + 1 ≡ length starts → Rising starts (length starts) → getD starts v 0 ≡ length targets → NoPlace (Fault4 starts targets)
 none-found starts targets v z e r h x (first k g) = g z
-none-found starts targets v z e r h x (below b k w g) =
-    let up : getD starts b 0 ≤ getD starts (b + 1) 0 = r .rising b (omega arith) in
-    let up′ : getD starts b 0 ≤ getD starts x 0 = subst (λ (k : ℕ). getD starts b 0 ≤ getD starts k 0) (sym k) up in
-    omega arith
+none-found starts targets v z e r h x (below b k w g) = not-below starts (length starts) b x r k w g
 none-found starts targets v z e r h x (last k g) =
     let d : x ≡ v = omega arith in
     g (ap (λ (i : ℕ). getD starts i 0) d ∙ h)
@@ -104,10 +104,13 @@ stretch-of n starts targets p v l =
       within = subst (λ (k : ℕ). getD starts (v + 1) 0 ≤ k) (p .last) (onward-from n starts targets p (v + 1) n (omega arith) (le-refl n));
     }
 
--- how long a stretch is, and what stands in it
+-- How long a stretch is, where its places lie in the targets, and what stands there.
 
 pub stretch-length : (starts targets : List ℕ) (v : ℕ) → Stretch starts targets v → length (nextOf starts targets v) ≡ getD starts (v + 1) 0 - getD starts v 0
 stretch-length starts targets v s = simp (length-take, length-drop) (omega (arith, s .onward, s .within))
+
+pub stretch-place : (starts targets : List ℕ) (v i : ℕ) → i < length (nextOf starts targets v) → getD starts v 0 + i < length targets
+stretch-place starts targets v i l = omega (arith, simp (length-take, length-drop) at l)
 
 pub stretch-at : (starts targets : List ℕ) (v i : ℕ) → i < length (nextOf starts targets v) → getD (nextOf starts targets v) i 0 ≡ getD targets (getD starts v 0 + i) 0
 stretch-at starts targets v i l =

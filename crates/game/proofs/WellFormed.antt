@@ -1,4 +1,4 @@
--- Tables are well formed exactly if none of 1 to 7 applies, and the test of the tables has no second result.
+-- Tables are well formed exactly if none of 1 to 7 applies.
 use Prim.Native.Nat.{ℕ, zero, suc, _+_, _-_, _<_, _≤_}
 use native.Mathlib.Nat.{le-refl, not-suc-le-zero}
 use native.Mathlib.Numerals.{add-one}
@@ -11,9 +11,9 @@ use lib.ListN.{length, getD}
 use Rattle.refusal.specs.Row.{None, NoPlace}
 use Rattle.game.specs.Game.{Listed, Ascending}
 use Rattle.game.specs.Tables.{nextOf, Placed, WellFormed}
-use Rattle.game.specs.Faults.{Fault6, Descent, tableRows}
+use Rattle.game.specs.Faults.{Fault1, Fault2, Fault3, Fault5, Fault6, Fault7, Descent, tableRows}
 use Rattle.game.proofs.Sizes.{none-of-fitting, fitting-of-none}
-use Rattle.game.proofs.Starts.{placed-of, none-of, stretch-of, stretch-length, stretch-at}
+use Rattle.game.proofs.Starts.{placed-of, none-of, stretch-of, stretch-length, stretch-place, stretch-at}
 
 -- a list ascends exactly if no number of it is not above the one before
 ascending-of-none : (l : List ℕ) → NoPlace (Descent l) → Ascending l
@@ -27,36 +27,33 @@ none-of-ascending l up x d =
     let k : getD l (d .before + 1) 0 ≤ getD l (d .before) 0 = subst (λ (i : ℕ). getD l i 0 ≤ getD l (d .before) 0) e (d .not-above) in
     omega arith
 
-module _ (owners priorities starts targets : List ℕ) (p : Placed (length owners) starts targets) where
-  -- a place in the stretch of v is a place in the targets, and every place in the targets lies in a stretch
-  in-targets : (v i : ℕ) → v < length owners → i < length (nextOf starts targets v) → getD starts v 0 + i < length targets
-  in-targets v i l h =
-      let s = stretch-of (length owners) starts targets p v l in
-      omega (arith, stretch-length starts targets v s, s .within)
-
-  inside-of : NoPlace (Fault6 (length owners) targets) → (v w : ℕ) → v < length owners → Listed w (nextOf starts targets v) → w < length owners
-  inside-of none v w l h =
+module _ (n : ℕ) (starts targets : List ℕ) (p : Placed n starts targets) where
+  inside-of-none : NoPlace (Fault6 n targets) → (v w : ℕ) → v < n → Listed w (nextOf starts targets v) → w < n
+  inside-of-none none v w l h =
       let e : getD targets (getD starts v 0 + h .at) 0 ≡ w = sym (stretch-at starts targets v (h .at) (h .within)) ∙ h .is in
-      elim (decLt w (length owners)) [ yes k ↦ k | no k ↦ absurd (none (getD starts v 0 + h .at) (record { place = in-targets v (h .at) l (h .within); outside = omega arith })) ]
+      elim (decLt w n) [
+        | yes k ↦ k
+        | no k ↦ absurd (none (getD starts v 0 + h .at) (record { place = stretch-place starts targets v (h .at) (h .within); outside = omega arith }))
+      ]
 
-  -- the vertex whose stretch holds the place x, among those below v
-  holder : (v x : ℕ) → v ≤ length owners → x < getD starts v 0 → (u : ℕ) × (u < length owners) × (getD starts u 0 ≤ x) × (x < getD starts (u + 1) 0)
+  -- every place x in the targets lies in a stretch: that of a vertex below v, if the stretches of these reach beyond x
+  holder : (v x : ℕ) → v ≤ n → x < getD starts v 0 → (u : ℕ) × (u < n) × (getD starts u 0 ≤ x) × (x < getD starts (u + 1) 0)
   holder zero x l h = absurd (not-suc-le-zero (subst (λ (k : ℕ). x < k) (p .first) h))
-  holder (suc v) x l h =
-      elim (decLe (getD starts v 0) x) [ yes k ↦ (v, l, k, subst (λ (i : ℕ). x < getD starts i 0) (sym (add-one v)) h) | no k ↦ holder v x (omega arith) (omega arith) ]
+  holder (suc v) x l h = elim (decLe (getD starts v 0) x) [
+    | yes k ↦ (v, l, k, subst (λ (i : ℕ). x < getD starts i 0) (sym (add-one v)) h)
+    | no k ↦ holder v x (omega arith) (omega arith)
+  ]
 
-  target-of : ((v w : ℕ) → v < length owners → Listed w (nextOf starts targets v) → w < length owners) → NoPlace (Fault6 (length owners) targets)
-  target-of inside x f =
-      let b : x < getD starts (length owners) 0 = subst (λ (k : ℕ). x < k) (sym (p .last)) (f .place) in
-      let h = holder (length owners) x (le-refl _) b in
-      let s = stretch-of (length owners) starts targets p (h .0) (h .1) in
-      let i : x - getD starts (h .0) 0 < length (nextOf starts targets (h .0)) = omega (arith, stretch-length starts targets (h .0) s, h .2, h .3) in
-      let e : getD starts (h .0) 0 + (x - getD starts (h .0) 0) ≡ x = omega (arith, h .2) in
-      let w : getD (nextOf starts targets (h .0)) (x - getD starts (h .0) 0) 0 ≡ getD targets x 0 =
-      stretch-at starts targets (h .0) (x - getD starts (h .0) 0) i ∙ ap (λ (k : ℕ). getD targets k 0) e
-      in
-      let l : getD targets x 0 < length owners = inside (h .0) (getD targets x 0) (h .1) (record { at = x - getD starts (h .0) 0; within = i; is = w }) in
-      omega (arith, f .outside)
+  none-of-inside : ((v w : ℕ) → v < n → Listed w (nextOf starts targets v) → w < n) → NoPlace (Fault6 n targets)
+  none-of-inside inside x f =
+      let h = holder n x (le-refl _) (subst (λ (k : ℕ). x < k) (sym (p .last)) (f .place)) in
+      let v = h .0 in
+      let i = x - getD starts v 0 in
+      let long = stretch-length starts targets v (stretch-of n starts targets p v (h .1)) in
+      let l : i < length (nextOf starts targets v) = omega (arith, h .2, h .3) in
+      let e : getD starts v 0 + i ≡ x = omega (arith, h .2) in
+      let w : getD (nextOf starts targets v) i 0 ≡ getD targets x 0 = stretch-at starts targets v i l ∙ ap (λ (k : ℕ). getD targets k 0) e in
+      omega (arith, inside v (getD targets x 0) (h .1) (record { at = i; within = l; is = w }), f .outside)
 
 module _ (owners priorities starts targets : List ℕ) where
   -- bytes are below 256
@@ -74,15 +71,32 @@ module _ (owners priorities starts targets : List ℕ) where
               few = fit .few;
               owned = λ v l. elim (decLt (getD owners v 0) 2) [ yes k ↦ k | no k ↦ absurd (none .1 .0 v (record { vertex = l; strange = k })) ];
               ranked = λ v l. elim (ℕ-discrete (getD priorities v 0) 255) [ yes e ↦ absurd (none .1 .1 .0 v (record { vertex = l; top = e })) | no ne ↦ omega (arith, bytes v) ];
-              inside = inside-of owners priorities starts targets p (none .1 .1 .1 .1 .1 .0);
+              inside = inside-of-none (length owners) starts targets p (none .1 .1 .1 .1 .1 .0);
               ascending = λ v l. ascending-of-none _ (λ i d. none .1 .1 .1 .1 .1 .1 .0 (getD starts v 0 + i) (record { vertex = v; is-vertex = l; at = i; place = refl; descent = d }));
             };
         moving = λ v l. elim (ℕ-discrete (length (nextOf starts targets v)) 0) [ yes e ↦ absurd (none .1 .1 .1 .1 .0 v (record { vertex = l; stuck = e })) | no ne ↦ omega arith ];
       }
 
   pub none-applies : WellFormed owners priorities starts targets → None (tableRows owners priorities starts targets)
-  none-applies w =
-      (none-of-fitting owners priorities starts targets (record { some = w .sound .some; few = w .sound .few; level = w .level; bounds = w .placed .bounds; edges = w .edges }), ((λ x f. f .strange (w .sound .owned x (f .vertex))), ((λ x f. omega (arith, f .top, w .sound .ranked x (f .vertex))), (none-of (length owners) starts targets (w .placed), ((λ x f. omega (arith, f .stuck, w .moving x (f .vertex))), (target-of owners priorities starts targets (w .placed) (w .sound .inside), ((λ x f. none-of-ascending _ (w .sound .ascending (f .vertex) (f .is-vertex)) (f .at) (f .descent)), tt)))))))
+  none-applies w = (sizes, (owner, (priority, (none-of (length owners) starts targets (w .placed), (stuck, (target, (order, tt)))))))
+    where
+      sizes : NoPlace (Fault1 owners priorities starts targets)
+      sizes = none-of-fitting owners priorities starts targets (record { some = w .sound .some; few = w .sound .few; level = w .level; bounds = w .placed .bounds; edges = w .edges })
+
+      owner : NoPlace (Fault2 owners)
+      owner x f = f .strange (w .sound .owned x (f .vertex))
+
+      priority : NoPlace (Fault3 (length owners) priorities)
+      priority x f = omega (arith, f .top, w .sound .ranked x (f .vertex))
+
+      stuck : NoPlace (Fault5 (length owners) starts targets)
+      stuck x f = omega (arith, f .stuck, w .moving x (f .vertex))
+
+      target : NoPlace (Fault6 (length owners) targets)
+      target = none-of-inside (length owners) starts targets (w .placed) (w .sound .inside)
+
+      order : NoPlace (Fault7 (length owners) starts targets)
+      order x f = none-of-ascending _ (w .sound .ascending (f .vertex) (f .is-vertex)) (f .at) (f .descent)
 
   -- accepted exactly if well formed
   pub accepted-iff-well-formed : ((v : ℕ) → getD priorities v 0 < 256) → None (tableRows owners priorities starts targets) ↔ WellFormed owners priorities starts targets

@@ -16,10 +16,11 @@ abbrev pub tablesSaid : Tables → Said
 tablesSaid Passed = success []
 tablesSaid (Refused r) = saidOf r
 
--- for how many vertices a list of winners has room, and the mark of a vertex
+-- for how many vertices a list of winners has room
 unfoldable pub markRoom : List ℕ → ℕ
 markRoom winners = length winners
 
+-- the mark of a vertex: its winner
 unfoldable pub markOf : List ℕ → ℕ → ℕ
 markOf winners v = getD winners v 0
 

@@ -1,14 +1,8 @@
--- "A player is Even (0) or Odd (1), each the opponent of the other." A player is the number 0 or 1, so that omega reads it.
+-- "A player is Even (0) or Odd (1), each the opponent of the other." A player is the number, so that omega reads it.
 use Prim.Native.Nat.{ℕ, _-_, _<_, _%_}
 use mathlib.Core.Path.{_≡_}
 use mathlib.Core.Logic.{_≢_}
 use native.Mathlib.Omega.{arith}
-
-abbrev pub even : ℕ
-even = 0
-
-abbrev pub odd : ℕ
-odd = 1
 
 -- the numbers that name a player
 abbrev pub IsPlayer : ℕ → Type 0
@@ -30,9 +24,10 @@ opponent-involution p l = omega arith
 pub opponent-other : (p : ℕ) → IsPlayer p → opponentOf p ≢ p
 opponent-other p l = omega arith
 
--- the opponent is a player, and so is a parity
+-- the opponent is a player
 pub opponent-player : (p : ℕ) → IsPlayer (opponentOf p)
 opponent-player p = omega arith
 
+-- a parity is a player
 pub parity-player : (k : ℕ) → IsPlayer (parityOf k)
 parity-player k = omega arith

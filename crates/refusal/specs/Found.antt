@@ -30,12 +30,15 @@ refusal-unique q r e =
 pub record Scanned (P : ℕ → Type 0) (i : ℕ) : Type 0 where
   pub clear : (x : ℕ) → x < i → P x → ⊥
 
+-- nothing is passed at the start
 pub scan-none : {P : ℕ → Type 0} → Scanned P 0
 scan-none = record { clear = λ x l p. not-suc-le-zero l }
 
+-- one place more at which P does not hold
 pub scan-more : {P : ℕ → Type 0} {i : ℕ} → Scanned P i → (P i → ⊥) → Scanned P (i + 1)
 scan-more {P} {i} s here = record { clear = below-more (λ x. P x → ⊥) i (s .clear) here }
 
+-- the first place at which P holds
 pub scan-found : {P : ℕ → Type 0} {i : ℕ} → Scanned P i → P i → Lowest P i
 scan-found s p = record { holds = p; lower = s .clear }
 
@@ -43,7 +46,7 @@ scan-found s p = record { holds = p; lower = s .clear }
 pub scan-all : {P : ℕ → Type 0} {i : ℕ} → Scanned P i → ((x : ℕ) → P x → x < i) → NoPlace P
 scan-all s within x p = s .clear x (within x p) p
 
--- what a caller that has looked at the answer knows
+-- What a caller that has looked at the answer knows.
 
 pub found-at : (P : ℕ → Type 0) {f : Found} {x : ℕ} → f ≡ At x → Finds P f → Lowest P x
 found-at P e h = subst (Finds P) e h

@@ -40,6 +40,8 @@ abbrev pub Gives : List Row → Said → Type 0
 Gives rows (success values) = None rows
 Gives rows (refused k x) = First rows k x
 
+-- What is said is determined: one place is the lowest, a refusal leaves no success, and two refusals are one.
+
 pub lowest-unique : {P : ℕ → Type 0} {x y : ℕ} → Lowest P x → Lowest P y → x ≡ y
 lowest-unique {x} {y} a b = elim (decLt x y) [ yes l ↦ absurd (b .lower x l (a .holds)) | no h ↦ other h (decLt y x) ]
   where
@@ -59,12 +61,7 @@ first-unique (row ∷ rows) k l x y (inl a) (inr b) = absurd (b .0 x (a .1 .hold
 first-unique (row ∷ rows) k l x y (inr a) (inl b) = absurd (a .0 y (b .1 .holds))
 first-unique (row ∷ rows) k l x y (inr a) (inr b) = first-unique rows k l x y (a .1) (b .1)
 
--- what is said is determined: after a refusal nothing else can be said of the same rows
-pub gives-unique : (rows : List Row) (k x : ℕ) (s : Said) → First rows k x → Gives rows s → refused k x ≡ s
-gives-unique rows k x (success values) f n = absurd (first-not-none rows k x f n)
-gives-unique rows k x (refused l y) f g = first-unique rows k l x y f g
-
--- The laws by which an entry point joins the rows of one test to those of the next.
+-- The laws by which an entry point joins the rows of one test to those of the next, and takes them apart.
 
 pub none-append : (rows more : List Row) → None rows → None more → None (rows ++ more)
 none-append [] more n m = m
@@ -87,12 +84,12 @@ pub none-right : (rows more : List Row) → None (rows ++ more) → None more
 none-right [] more n = n
 none-right (row ∷ rows) more n = none-right rows more (n .1)
 
--- what holds of every row's number holds of the number that is given
-
+-- P holds of every row's number
 abbrev pub Numbers : (ℕ → Type 0) → List Row → Type 0
 Numbers P [] = Unit {0}
 Numbers P (row ∷ rows) = P (row .number) × Numbers P rows
 
+-- and so of the number that is given
 pub first-number : (P : ℕ → Type 0) (rows : List Row) (k x : ℕ) → Numbers P rows → First rows k x → P k
 first-number P [] k x n f = absurd f
 first-number P (row ∷ rows) k x n (inl here) = subst P (sym (here .0)) (n .0)

@@ -1,4 +1,5 @@
--- `answer::mark` reads the winners' list where `markOf` does.
+-- `game::answer::mark` meets its contract: it reads the winners' list where `markOf` does.
+-- Assumes nothing.
 use borrow.Author.Needs.{needs}
 use Rattle.game.specs.Answer.{markRoom, markOf}
 use mathlib.Core.Path.{refl}

@@ -1,4 +1,5 @@
--- `answer::record_move` changes one vertex's move: the law of a store (Stores).
+-- `game::answer::record_move` meets its contract: one vertex's move is changed, by the law of a store (Stores).
+-- Assumes nothing.
 use borrow.Author.Needs.{needs}
 use Rattle.game.proofs.Stores.{move-set}
 use Rattle.game.proofs.answer.record_move.Statement.{statement}

@@ -1,4 +1,5 @@
--- `answer::recorded` reads the list of moves where `moveOf` does.
+-- `game::answer::recorded` meets its contract: it reads the list of moves where `moveOf` does.
+-- Assumes nothing.
 use borrow.Author.Needs.{needs}
 use Rattle.game.specs.Answer.{moveOf}
 use mathlib.Core.Path.{refl}

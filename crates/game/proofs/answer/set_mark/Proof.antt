@@ -1,4 +1,5 @@
--- `answer::set_mark` changes one vertex's mark: the law of a store (Stores).
+-- `game::answer::set_mark` meets its contract: one vertex's mark is changed, by the law of a store (Stores).
+-- Assumes nothing.
 use borrow.Author.Needs.{needs}
 use Rattle.game.proofs.Stores.{mark-set}
 use Rattle.game.specs.Answer.{markRoom}

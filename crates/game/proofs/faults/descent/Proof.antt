@@ -1,4 +1,5 @@
--- A scan of one stretch from its second number on: the first has none before it.
+-- `game::faults::descent` meets its contract. A scan of one stretch from its second number on: the first has none before it.
+-- Assumes nothing.
 use borrow.Author.Needs.{needs}
 use mathlib.Core.Path.{_≡_, subst}
 use mathlib.Core.List.{List}

@@ -1,4 +1,5 @@
--- Row 7: a scan of the vertices; a place in a stretch becomes a place in the targets (Order).
+-- `game::faults::order` meets its contract. Row 7 is a scan of the vertices; a place in a stretch becomes a place in the targets (Order).
+-- Assumes nothing.
 use borrow.Author.Needs.{needs}
 use Rattle.game.proofs.Order.{Unordered, order-found, order-within, order-more, order-none}
 use Rattle.game.proofs.Starts.{stretch-of}

@@ -1,4 +1,5 @@
--- Row 2: a scan; the invariant is that no owner passed is strange.
+-- `game::faults::owner` meets its contract. Row 2 is a scan; the invariant: no owner passed is strange.
+-- Assumes nothing.
 use borrow.Author.Needs.{needs}
 use native.Mathlib.Omega.{arith}
 use Prim.Native.Nat.{_≤_, _-_}

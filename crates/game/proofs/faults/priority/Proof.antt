@@ -1,4 +1,5 @@
--- Row 3: a scan; the invariant is that no priority passed is 255.
+-- `game::faults::priority` meets its contract. Row 3 is a scan; the invariant: no priority passed is 255.
+-- Assumes nothing.
 use borrow.Author.Needs.{needs}
 use Rattle.game.specs.Faults.{Fault3}
 use Rattle.refusal.specs.Found.{Scanned, scan-none, scan-more, scan-found, scan-all}

@@ -1,4 +1,5 @@
--- Row 1: each test that holds is one of its cases, and if none does the lengths fit one another (Sizes).
+-- `game::faults::sizes` meets its contract. Row 1: each test that holds is one of its cases; if none does the lengths fit one another (Sizes).
+-- Assumes nothing.
 use borrow.Author.Needs.{needs}
 use Rattle.game.proofs.Sizes.{none-of-fitting}
 use Rattle.game.specs.Faults.{no-vertex, over-2048, differ, not-n+1, over-16384}

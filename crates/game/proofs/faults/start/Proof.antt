@@ -1,4 +1,5 @@
--- Row 4: the starts passed do not fall (Starts.Rising), and the last is looked at by itself.
+-- `game::faults::start` meets its contract. Row 4: the starts passed do not fall (Starts.Rising), and the last is looked at by itself.
+-- Assumes nothing.
 use borrow.Author.Needs.{needs}
 use mathlib.Core.Path.{sym, _∙_}
 use Rattle.game.proofs.Starts.{Rising, rising-one, rising-more, rising-to, first-found, below-found, last-found, none-found}

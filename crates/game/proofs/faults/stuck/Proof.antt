@@ -1,4 +1,5 @@
--- Row 5: a scan; the invariant is that no vertex passed is stuck.
+-- `game::faults::stuck` meets its contract. Row 5 is a scan; the invariant: no vertex passed is stuck.
+-- Assumes nothing.
 use borrow.Author.Needs.{needs}
 use mathlib.Core.Path.{ap, sym, _∙_}
 use Rattle.game.proofs.Starts.{stretch-of}

@@ -1,4 +1,5 @@
--- Row 6: a scan; the invariant is that no target passed is outside.
+-- `game::faults::target` meets its contract. Row 6 is a scan; the invariant: no target passed is outside.
+-- Assumes nothing.
 use borrow.Author.Needs.{needs}
 use Rattle.game.specs.Faults.{Fault6}
 use Rattle.refusal.specs.Found.{Scanned, scan-none, scan-more, scan-found, scan-all}

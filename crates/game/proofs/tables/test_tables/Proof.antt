@@ -1,4 +1,5 @@
--- The rows in turn: each that is passed applies nowhere, and the one that is given applies first.
+-- `game::tables::test_tables` meets its contract. The rows in turn: each that is passed applies nowhere, and the one that is given applies first.
+-- Assumes nothing.
 use borrow.Author.Needs.{needs}
 use Rattle.game.proofs.Starts.{placed-of}
 use Rattle.game.proofs.Sizes.{Fitting, fitting-of-none}
@@ -20,7 +21,7 @@ abbrev start1 : tie.After-enum-told → tie.Start
 start1 c = c .before .before .before .before .before .before .before
 
 none1 : (c : tie.After-enum-told) → NoPlace (Fault1 (now (start1 c .args .owners)) (now (start1 c .args .priorities)) (now (start1 c .args .starts)) (now (start1 c .args .targets)))
-none1 c = found-nowhere (Fault1 (now (start1 c .args .owners)) (now (start1 c .args .priorities)) (now (start1 c .args .starts)) (now (start1 c .args .targets))) (c .enum-told .given .1) (c .before .before .sizes .ensures)
+none1 c = found-nowhere (Fault1 _ _ _ _) (c .enum-told .given .1) (c .before .before .sizes .ensures)
 
 -- rows 1 and 4 passed: what the later tests ask
 fitting : (c : tie.After-enum-told) → Fitting (now (start1 c .args .owners)) (now (start1 c .args .priorities)) (now (start1 c .args .starts)) (now (start1 c .args .targets))
@@ -30,19 +31,19 @@ abbrev start2 : tie.After-enum-told2 → tie.Start
 start2 c = start1 (c .before .before .before)
 
 none2 : (c : tie.After-enum-told2) → NoPlace (Fault2 (now (start2 c .args .owners)))
-none2 c = found-nowhere (Fault2 (now (start2 c .args .owners))) (c .enum-told2 .given .1) (c .before .before .owner .ensures)
+none2 c = found-nowhere (Fault2 _) (c .enum-told2 .given .1) (c .before .before .owner .ensures)
 
 abbrev start3 : tie.After-enum-told3 → tie.Start
 start3 c = start2 (c .before .before .before)
 
 none3 : (c : tie.After-enum-told3) → NoPlace (Fault3 (length (now (start3 c .args .owners))) (now (start3 c .args .priorities)))
-none3 c = found-nowhere (Fault3 (length (now (start3 c .args .owners))) (now (start3 c .args .priorities))) (c .enum-told3 .given .1) (c .before .before .priority .ensures)
+none3 c = found-nowhere (Fault3 _ _) (c .enum-told3 .given .1) (c .before .before .priority .ensures)
 
 abbrev start4 : tie.After-enum-told4 → tie.Start
 start4 c = start3 (c .before .before .before)
 
 none4 : (c : tie.After-enum-told4) → NoPlace (Fault4 (now (start4 c .args .starts)) (now (start4 c .args .targets)))
-none4 c = found-nowhere (Fault4 (now (start4 c .args .starts)) (now (start4 c .args .targets))) (c .enum-told4 .given .1) (c .before .before .start .ensures)
+none4 c = found-nowhere (Fault4 _ _) (c .enum-told4 .given .1) (c .before .before .start .ensures)
 
 placed : (c : tie.After-enum-told4) → Placed (length (now (start4 c .args .owners))) (now (start4 c .args .starts)) (now (start4 c .args .targets))
 placed c = placed-of _ _ _ (fitting (c .before .before .before .before .before .before .before .before .before) .bounds) (none4 c)
@@ -51,19 +52,19 @@ abbrev start5 : tie.After-enum-told5 → tie.Start
 start5 c = start4 (c .before .before .before)
 
 none5 : (c : tie.After-enum-told5) → NoPlace (Fault5 (length (now (start5 c .args .owners))) (now (start5 c .args .starts)) (now (start5 c .args .targets)))
-none5 c = found-nowhere (Fault5 (length (now (start5 c .args .owners))) (now (start5 c .args .starts)) (now (start5 c .args .targets))) (c .enum-told5 .given .1) (c .before .before .stuck .ensures)
+none5 c = found-nowhere (Fault5 _ _ _) (c .enum-told5 .given .1) (c .before .before .stuck .ensures)
 
 abbrev start6 : tie.After-enum-told6 → tie.Start
 start6 c = start5 (c .before .before .before)
 
 none6 : (c : tie.After-enum-told6) → NoPlace (Fault6 (length (now (start6 c .args .owners))) (now (start6 c .args .targets)))
-none6 c = found-nowhere (Fault6 (length (now (start6 c .args .owners))) (now (start6 c .args .targets))) (c .enum-told6 .given .1) (c .before .before .target .ensures)
+none6 c = found-nowhere (Fault6 _ _) (c .enum-told6 .given .1) (c .before .before .target .ensures)
 
 abbrev start7 : tie.After-enum-told7 → tie.Start
 start7 c = start6 (c .before .before .before)
 
 none7 : (c : tie.After-enum-told7) → NoPlace (Fault7 (length (now (start7 c .args .owners))) (now (start7 c .args .starts)) (now (start7 c .args .targets)))
-none7 c = found-nowhere (Fault7 (length (now (start7 c .args .owners))) (now (start7 c .args .starts)) (now (start7 c .args .targets))) (c .enum-told7 .given .1) (c .before .before .order .ensures)
+none7 c = found-nowhere (Fault7 _ _ _) (c .enum-told7 .given .1) (c .before .before .order .ensures)
 
 sizes-requires : tie.Need-sizes-requires
 sizes-requires c κs = search needs
@@ -76,7 +77,7 @@ refused-requires c κs = search needs
 
 returns : tie.Need-returns
 returns c =
-    refuses _ (c .refused .ensures) (inl (refl, found-at (Fault1 (now ((c .before .before .before .before .before .before .before .before .before) .args .owners)) (now ((c .before .before .before .before .before .before .before .before .before) .args .priorities)) (now ((c .before .before .before .before .before .before .before .before .before) .args .starts)) (now ((c .before .before .before .before .before .before .before .before .before) .args .targets))) (c .before .before .sizes2 .given .1) (c .before .before .before .before .sizes .ensures)))
+    refuses _ (c .refused .ensures) (inl (refl, found-at (Fault1 _ _ _ _) (c .before .before .sizes2 .given .1) (c .before .before .before .before .sizes .ensures)))
 
 enum-told : tie.Need-enum-told
 enum-told c = search needs
@@ -93,7 +94,7 @@ refused-requires-2 c κs = search needs
 returns-2 : tie.Need-returns-2
 returns-2 c =
     let p1 = c .before .before .before .before .before in
-    refuses _ (c .refused2 .ensures) (inr (none1 p1, inl (refl, found-at (Fault2 (now ((start1 p1) .args .owners))) (c .before .before .owner2 .given .1) (c .before .before .before .before .owner .ensures))))
+    refuses _ (c .refused2 .ensures) (inr (none1 p1, inl (refl, found-at (Fault2 _) (c .before .before .owner2 .given .1) (c .before .before .before .before .owner .ensures))))
 
 enum-told-2 : tie.Need-enum-told-2
 enum-told-2 c = search needs
@@ -111,7 +112,7 @@ returns-3 : tie.Need-returns-3
 returns-3 c =
     let p2 = c .before .before .before .before .before in
     let p1 = p2 .before .before .before in
-    refuses _ (c .refused3 .ensures) (inr (none1 p1, inr (none2 p2, inl (refl, found-at (Fault3 (length (now ((start2 p2) .args .owners))) (now ((start2 p2) .args .priorities))) (c .before .before .priority2 .given .1) (c .before .before .before .before .priority .ensures)))))
+    refuses _ (c .refused3 .ensures) (inr (none1 p1, inr (none2 p2, inl (refl, found-at (Fault3 _ _) (c .before .before .priority2 .given .1) (c .before .before .before .before .priority .ensures)))))
 
 enum-told-3 : tie.Need-enum-told-3
 enum-told-3 c = search needs
@@ -130,7 +131,7 @@ returns-4 c =
     let p3 = c .before .before .before .before .before in
     let p2 = p3 .before .before .before in
     let p1 = p2 .before .before .before in
-    refuses _ (c .refused4 .ensures) (inr (none1 p1, inr (none2 p2, inr (none3 p3, inl (refl, found-at (Fault4 (now ((start3 p3) .args .starts)) (now ((start3 p3) .args .targets))) (c .before .before .start2 .given .1) (c .before .before .before .before .start .ensures))))))
+    refuses _ (c .refused4 .ensures) (inr (none1 p1, inr (none2 p2, inr (none3 p3, inl (refl, found-at (Fault4 _ _) (c .before .before .start2 .given .1) (c .before .before .before .before .start .ensures))))))
 
 enum-told-4 : tie.Need-enum-told-4
 enum-told-4 c = search needs
@@ -150,7 +151,7 @@ returns-5 c =
     let p3 = p4 .before .before .before in
     let p2 = p3 .before .before .before in
     let p1 = p2 .before .before .before in
-    refuses _ (c .refused5 .ensures) (inr (none1 p1, inr (none2 p2, inr (none3 p3, inr (none4 p4, inl (refl, found-at (Fault5 (length (now ((start4 p4) .args .owners))) (now ((start4 p4) .args .starts)) (now ((start4 p4) .args .targets))) (c .before .before .stuck2 .given .1) (c .before .before .before .before .stuck .ensures)))))))
+    refuses _ (c .refused5 .ensures) (inr (none1 p1, inr (none2 p2, inr (none3 p3, inr (none4 p4, inl (refl, found-at (Fault5 _ _ _) (c .before .before .stuck2 .given .1) (c .before .before .before .before .stuck .ensures)))))))
 
 enum-told-5 : tie.Need-enum-told-5
 enum-told-5 c = search needs
@@ -171,7 +172,7 @@ returns-6 c =
     let p3 = p4 .before .before .before in
     let p2 = p3 .before .before .before in
     let p1 = p2 .before .before .before in
-    refuses _ (c .refused6 .ensures) (inr (none1 p1, inr (none2 p2, inr (none3 p3, inr (none4 p4, inr (none5 p5, inl (refl, found-at (Fault6 (length (now ((start5 p5) .args .owners))) (now ((start5 p5) .args .targets))) (c .before .before .target2 .given .1) (c .before .before .before .before .target .ensures))))))))
+    refuses _ (c .refused6 .ensures) (inr (none1 p1, inr (none2 p2, inr (none3 p3, inr (none4 p4, inr (none5 p5, inl (refl, found-at (Fault6 _ _) (c .before .before .target2 .given .1) (c .before .before .before .before .target .ensures))))))))
 
 enum-told-6 : tie.Need-enum-told-6
 enum-told-6 c = search needs
@@ -193,7 +194,7 @@ returns-7 c =
     let p3 = p4 .before .before .before in
     let p2 = p3 .before .before .before in
     let p1 = p2 .before .before .before in
-    refuses _ (c .refused7 .ensures) (inr (none1 p1, inr (none2 p2, inr (none3 p3, inr (none4 p4, inr (none5 p5, inr (none6 p6, inl (refl, found-at (Fault7 (length (now ((start6 p6) .args .owners))) (now ((start6 p6) .args .starts)) (now ((start6 p6) .args .targets))) (c .before .before .order2 .given .1) (c .before .before .before .before .order .ensures)))))))))
+    refuses _ (c .refused7 .ensures) (inr (none1 p1, inr (none2 p2, inr (none3 p3, inr (none4 p4, inr (none5 p5, inr (none6 p6, inl (refl, found-at (Fault7 _ _ _) (c .before .before .order2 .given .1) (c .before .before .before .before .order .ensures)))))))))
 
 enum-told-7 : tie.Need-enum-told-7
 enum-told-7 c = search needs

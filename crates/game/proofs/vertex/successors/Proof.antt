@@ -1,4 +1,5 @@
--- The part from start(v) to start(v+1) is `nextOf`.
+-- `game::vertex::successors` meets its contract: the part from start(v) to start(v+1) is `nextOf`.
+-- Assumes nothing.
 use borrow.Author.Needs.{needs}
 use denote.Ref.{now}
 use lib.ListN.{take, drop}

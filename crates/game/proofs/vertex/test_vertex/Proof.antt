@@ -1,4 +1,5 @@
--- A scan of the stretch; the invariant is that no successor passed is marked for the owner.
+-- `game::vertex::test_vertex` meets its contract. A scan of the stretch; the invariant: no successor passed is marked for the owner.
+-- Assumes nothing.
 use borrow.Author.Needs.{needs}
 use Rattle.game.specs.Answer.{markOf, MarkedFor}
 use mathlib.Core.Path.{refl, ap, sym, _∙_}
