@@ -41,8 +41,8 @@ module _ (g : Game) (owned : (v : ℕ) → v < g .n → IsPlayer (g .owner v)) w
       turn t =
           let m = t .0 in
           let R : ℕ → Type 0 = λ u. Walk (Support g mark move settled) u v in
-          let l = leaning g mark move settled v (least .vertex) in
-          let k = turned g mark move settled v m R (decide-leaning g mark move settled v (least .vertex)) in
+          let l = leaning g mark move settled v in
+          let k = turned g mark move settled v m R (decide-leaning g mark move settled v) in
           better _ _ _ (turns g mark move settled _ _ _ R v m safe least (t .1) l k) (turns-falls g mark move settled _ _ _ R v m safe least l k)
 
   -- nothing is open, or the method goes on

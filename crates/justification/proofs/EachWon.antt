@@ -1,14 +1,12 @@
 -- "It must be shown that each vertex is won by exactly one player."
 use Prim.Native.Nat.{ℕ, _<_}
-use mathlib.Core.Path.{_≡_, subst}
-use native.Mathlib.Decide.{ℕ-discrete}
-use native.Mathlib.Omega.{arith}
-use Rattle.player.specs.Player.{IsPlayer, opponentOf}
+use mathlib.Core.Path.{_≡_}
+use Rattle.player.specs.Player.{IsPlayer}
 use Rattle.game.specs.Game.{Game, Sound, Moving}
 use Rattle.winning.specs.Wins.{Wins}
 use Rattle.winning.proofs.Accepted.{accepted-right}
 use Rattle.winning.proofs.Won.{accepted-won}
-use Rattle.winning.proofs.NobodyTwice.{nobody-twice}
+use Rattle.winning.proofs.NobodyTwice.{same-winner}
 use Rattle.justification.proofs.Determined.{answer-exists}
 
 -- the one player who wins v
@@ -17,13 +15,6 @@ pub record Winner (g : Game) (v : ℕ) : Type 0 where
   pub player : IsPlayer winner
   pub wins : Wins g winner v
   pub only : (p : ℕ) → IsPlayer p → Wins g p v → p ≡ winner
-
--- who wins what another wins is that other
-pub same-winner : (g : Game) → Sound g → Moving g → (v p q : ℕ) → v < g .n → IsPlayer p → IsPlayer q → Wins g p v → Wins g q v → p ≡ q
-same-winner g sound moving v p q l hp hq a b = elim (ℕ-discrete p q) [ yes e ↦ e | no ne ↦ absurd (nobody-twice g sound moving q v hq l b (other ne)) ]
-  where
-    other : ¬ (p ≡ q) → Wins g (opponentOf q) v
-    other ne = let e : p ≡ opponentOf q = omega arith in subst (λ (k : ℕ). Wins g k v) e a
 
 pub each-won : (g : Game) → Sound g → Moving g → (v : ℕ) → v < g .n → Winner g v
 each-won g sound moving v l =

@@ -35,7 +35,7 @@ fresh-safe h mark move settled own unsettled =
     (λ v w s a. own v (s .edge .from))
 
 -- an edge of one game is one of another with the same vertices and successors
-same-edge : {g h : Game} {v w : ℕ} → g .n ≡ h .n → g .next v ≡ h .next v → Edge g v w → Edge h v w
+pub same-edge : {g h : Game} {v w : ℕ} → g .n ≡ h .n → g .next v ≡ h .next v → Edge g v w → Edge h v w
 same-edge {w} size next e =
     record { from = rw (sym size) (e .from); to = rw (sym size) (e .to); listed = subst (λ l. Listed w l) next (e .listed) }
 

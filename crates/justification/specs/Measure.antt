@@ -16,6 +16,7 @@ weightBy n false own = n + 2
 weightBy n true true = n + 1
 weightBy n true false = 0
 
+-- the sum over the vertices
 unfoldable pub measure : Game → (mark settled : ℕ → ℕ) → ℕ
 measure g mark settled =
     sum (g .n) (λ v. weightBy (g .n) (eqb (settled v) 1) (eqb (mark v) (parityOf (g .priority v))) * (g .n + 2) ^ g .priority v)

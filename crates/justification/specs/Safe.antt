@@ -15,6 +15,7 @@ module _ (g : Game) (mark move settled : ℕ → ℕ) where
     pub edge : Edge g v w
     pub fixed : g .owner v ≡ mark v → w ≡ move v
 
+  -- the five invariants of the method
   pub record Safe : Type 0 where
     -- (form) marks are 0 or 1, and a settled vertex that its loser owns has no move
     pub player : (v : ℕ) → v < g .n → IsPlayer (mark v)

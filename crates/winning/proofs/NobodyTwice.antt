@@ -1,4 +1,5 @@
 -- No vertex is won by both players: their fixed moves together lead into one cycle, and its highest priority has one parity.
+-- So two winners of a vertex are one, and two accepted answers have the same winners.
 use Prim.Native.Nat.{ℕ, _<_}
 use mathlib.Core.Path.{_≡_, refl, sym, subst, _∙_}
 use mathlib.Core.Logic.{_≢_, ite}
@@ -51,16 +52,17 @@ module _ (g : Game) (sound : Sound g) (moving : Moving g) where
       parity : (q : ℕ) (w : Wins g q v) → ((x y : ℕ) → S x y → By g q (w .move) x y) → parityOf (highest g (r .on ∷ r .rest)) ≡ q
       parity q w f = w .wins (r .on) (r .rest) (map-walk f (r .reached)) (map-cycle (λ x. Unit {0}) (λ x y h s. (f x y s, tt)) (r .on) (r .rest) tt (r .cycle))
 
+  -- who wins what another wins is that other
+  pub same-winner : (v p q : ℕ) → v < g .n → IsPlayer p → IsPlayer q → Wins g p v → Wins g q v → p ≡ q
+  same-winner v p q l i j a b = elim (ℕ-discrete p q) [ yes e ↦ e | no h ↦ absurd (nobody-twice p v i l a (other h)) ]
+    where
+      other : p ≢ q → Wins g (opponentOf p) v
+      other h = let e : q ≡ opponentOf p = omega arith in subst (λ k. Wins g k v) e b
+
 -- two accepted answers have the same winners
 pub accepted-same :
     (g : Game) (mark move mark′ move′ : ℕ → ℕ) → Sound g → Moving g →
     Accepted g mark move → Accepted g mark′ move′ → (v : ℕ) → v < g .n → mark v ≡ mark′ v
-accepted-same g mark move mark′ move′ sound moving a b v l = elim (ℕ-discrete (mark v) (mark′ v)) [ yes e ↦ e | no h ↦ absurd (differ h) ]
-  where
-    differ : mark v ≢ mark′ v → ⊥
-    differ h =
-        let i = accepted-backed g mark move a .winner v l in
-        let j = accepted-backed g mark′ move′ b .winner v l in
-        let e : mark′ v ≡ opponentOf (mark v) = omega arith in
-        nobody-twice g sound moving (mark v) v i l (accepted-won g mark move sound moving a v l)
-        (subst (λ q. Wins g q v) e (accepted-won g mark′ move′ sound moving b v l))
+accepted-same g mark move mark′ move′ sound moving a b v l =
+    same-winner g sound moving v (mark v) (mark′ v) l (accepted-backed g mark move a .winner v l) (accepted-backed g mark′ move′ b .winner v l)
+    (accepted-won g mark move sound moving a v l) (accepted-won g mark′ move′ sound moving b v l)

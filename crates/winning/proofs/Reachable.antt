@@ -1,14 +1,14 @@
--- Warshall's recursion is right, so it is decided whether there is a walk.
+-- Warshall's recursion is right, so it is tested whether there is a walk.
 use Prim.Native.Nat.{ℕ, zero, suc, _<_}
 use mathlib.Core.Path.{_≡_, refl, subst}
-use mathlib.Core.Bool.{Bool}
+use mathlib.Core.Bool.{Bool, _||_}
 use mathlib.Core.Logic.{_⊎_, inl, inr, ⊎-elim}
 use native.Mathlib.Nat.{eq-or-lt-of-le, le-of-suc-le-suc, lt-suc-self, not-suc-le-zero}
-use native.Mathlib.Decide.{ℕ-discrete, decLt}
 use native.Mathlib.Omega.{arith}
+use lib.Dec.{eqb}
 use Rattle.winning.specs.Walk.{Walk, stay, step}
 use Rattle.winning.specs.Verdict.{via}
-use Rattle.winning.proofs.Reflect.{Tests, tests-dec, tests-decide, tests-map, tests-and, tests-or}
+use Rattle.winning.proofs.Reflect.{Tests, tests-map, tests-and, tests-or, tests-eq}
 
 -- a walk of one step or more whose vertices strictly in between are below k
 pub data Via (S : ℕ → ℕ → Type 0) (k : ℕ) : ℕ → ℕ → Type 0 where
@@ -72,15 +72,8 @@ module _ {S : ℕ → ℕ → Type 0} where
   walk-via b stay = inl refl
   walk-via b (step s a) = inr (step-via b s a)
 
-module _ (n : ℕ) (S : ℕ → ℕ → Type 0) (inside : (v w : ℕ) → S v w → (v < n) × (w < n)) (decided : (v w : ℕ) → v < n → w < n → Dec (S v w)) where
-  decide-step : (v w : ℕ) → Dec (S v w)
-  decide-step v w = elim (decLt v n) [ yes l ↦ to l (decLt w n) | no h ↦ no (λ s. h (inside v w s .0)) ]
-    where
-      to : v < n → Dec (w < n) → Dec (S v w)
-      to l (yes m) = decided v w l m
-      to l (no h) = no (λ s. h (inside v w s .1))
-
-  pub decide-walk : (v u : ℕ) → v < n → u < n → Dec (Walk S v u)
-  decide-walk v u lv lu =
-      tests-dec (tests-map (⊎-elim (λ e. subst (Walk S v) e stay) via-walk) (walk-via (λ x y s. inside x y s .0))
-      (tests-or (tests-decide (ℕ-discrete v u)) (via-tests (λ x y. tests-decide (decide-step x y)) n v u)))
+  -- and so it is tested whether there is a walk at all, if all steps start below k
+  pub walk-tests :
+      {s : ℕ → ℕ → Bool} → ((v w : ℕ) → Tests (S v w) (s v w)) → (k : ℕ) → ((x y : ℕ) → S x y → x < k) → (v u : ℕ) →
+      Tests (Walk S v u) (eqb v u || via s k v u)
+  walk-tests r k b v u = tests-map (⊎-elim (λ e. subst (Walk S v) e stay) via-walk) (walk-via b) (tests-or (tests-eq v u) (via-tests r k v u))

@@ -1,7 +1,7 @@
 -- A Bool test and the statement that it tests.
 use Prim.Native.Nat.{ℕ, _<_, _≤_}
 use mathlib.Core.Path.{_≡_, refl}
-use mathlib.Core.Bool.{Bool, true, false, not, _&&_, _||_, decide}
+use mathlib.Core.Bool.{Bool, true, false, not, _&&_, _||_}
 use mathlib.Core.Logic.{_⊎_, inl, inr, ⊎-elim}
 use native.Mathlib.Nat.{not-le-of-lt}
 use lib.Dec.{eqb, leb, ltb}
@@ -15,11 +15,6 @@ pub data Tests (P : Type 0) : Bool → Type 0 where
 pub tests-dec : {P : Type 0} {b : Bool} → Tests P b → Dec P
 tests-dec (holds p) = yes p
 tests-dec (fails h) = no h
-
-pub tests-decide : {P : Type 0} (d : Dec P) → Tests P (decide d)
-unfolding decide
-tests-decide (yes p) = holds p
-tests-decide (no h) = fails h
 
 -- the same test for an equivalent statement
 pub tests-map : {P Q : Type 0} {b : Bool} → (P → Q) → (Q → P) → Tests P b → Tests Q b

@@ -21,7 +21,7 @@ module _ (g : Game) (mark move : ℕ → ℕ) where
   tests-own : (v : ℕ) → Tests (g .owner v ≡ mark v) (isOwn g mark move v)
   tests-own v = tests-eq (g .owner v) (mark v)
 
-  tests-recorded : (v w : ℕ) → Tests (Recorded g mark move v w) (isRecorded g mark move v w)
+  pub tests-recorded : (v w : ℕ) → Tests (Recorded g mark move v w) (isRecorded g mark move v w)
   tests-recorded v w =
       tests-map (λ t. record { edge = t .0; fixed = t .1 }) (λ r. (r .edge, r .fixed))
       (tests-and (tests-edge g v w) (tests-implies (tests-own v) (tests-eq w (move v))))

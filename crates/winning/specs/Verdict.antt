@@ -68,19 +68,21 @@ module _ (g : Game) (mark move : ℕ → ℕ) where
   abbrev pub isRecordedBelow : ℕ → ℕ → ℕ → Bool
   isRecordedBelow k v w = isRecorded v w && leb (g .priority v) k
 
-  -- whether 11, 12, 13, 14 applies at the vertex x
-
+  -- whether 11 applies at the vertex x: the mark is strange
   abbrev pub test11 : ℕ → Bool
   test11 x = not (ltb (mark x) 2)
 
+  -- 12: where the winner owns, the move is no successor with the same mark; elsewhere it is not 65,535
   abbrev pub test12 : ℕ → Bool
   test12 x =
       (isOwn x && not (isEdge g x (move x) && eqb (mark (move x)) (mark x))) ||
       (not (isOwn x) && not (eqb (move x) noMove))
 
+  -- 13: the loser owns x, and some successor has another mark
   abbrev pub test13 : ℕ → Bool
   test13 x = not (isOwn x) && isAt (lowest (λ w. isEdge g x w && not (eqb (mark w) (mark x))) (g .n))
 
+  -- 14: the parity of x is not its mark, and recorded steps among priorities of at most its own lead back to x
   abbrev pub test14 : ℕ → Bool
   test14 x = not (eqb (parityOf (g .priority x)) (mark x)) && via (isRecordedBelow (g .priority x)) (g .n) x x
 

@@ -6,7 +6,7 @@ pub data Walk (S : ℕ → ℕ → Type 0) : ℕ → ℕ → Type 0 where
   stay : {v : ℕ} → Walk S v v
   step : {v w u : ℕ} → S v w → Walk S w u → Walk S v u
 
--- Laws: walks join, a map of steps maps walks, and what every step keeps a walk keeps.
+-- Laws: walks join, a map of steps maps walks, what every step keeps a walk keeps, and what every step takes back a walk takes back.
 
 pub join : {S : ℕ → ℕ → Type 0} {v w u : ℕ} → Walk S v w → Walk S w u → Walk S v u
 join stay b = b
@@ -19,3 +19,7 @@ map-walk f (step s a) = step (f _ _ s) (map-walk f a)
 pub follow : {S : ℕ → ℕ → Type 0} {v u : ℕ} (P : ℕ → Type 0) → ((x y : ℕ) → S x y → P x → P y) → P v → Walk S v u → P u
 follow P keep here stay = here
 follow P keep here (step s a) = follow P keep (keep _ _ s here) a
+
+pub follow-back : {S : ℕ → ℕ → Type 0} {v u : ℕ} (P : ℕ → Type 0) → ((x y : ℕ) → S x y → P y → P x) → P u → Walk S v u → P v
+follow-back P keep there stay = there
+follow-back P keep there (step s a) = keep _ _ s (follow-back P keep there a)
