@@ -1,7 +1,6 @@
--- The queue of marked vertices: a fresh one, one more seed, and the marks taken back.
+-- The queue of marked vertices: a fresh one, and one more seed.
 use Prim.Native.Nat.{ℕ, _+_, _*_, _<_, _≤_}
 use mathlib.Core.Path.{_≡_, refl, sym, subst, ap, _∙_}
-use mathlib.Core.Logic.{_≢_}
 use mathlib.Core.List.{List}
 use native.Mathlib.Omega.{arith}
 use native.Mathlib.Decide.{ℕ-discrete}
@@ -10,10 +9,10 @@ use lib.ListN.{length, getD, set, length-set}
 use lib.Seq.{getD-set-same, getD-set-other}
 use Rattle.reach.specs.Lists.{Filled}
 use Rattle.reach.specs.Closure.{Queued}
-use Rattle.reach.specs.Work.{section, Beside}
-use Rattle.reach.specs.Queue.{Seedable, Pushed, SeedableIn, PushedIn, ClearableIn, ClearedIn}
+use Rattle.reach.specs.Work.{section}
+use Rattle.reach.specs.Queue.{Seedable, Pushed, SeedableIn, PushedIn, ClearedIn}
 use Rattle.reach.proofs.Stores.{at-set}
-use Rattle.reach.proofs.Sections.{section-long, section-read, section-filled, Stored, stored, beside-none, beside-more, beside-stored}
+use Rattle.reach.proofs.Sections.{section-long, section-filled, Stored, stored, beside-more, beside-stored}
 use Rattle.reach.proofs.Count.{count-bounded, count-none, count-set, count-room}
 
 -- no marks, no queue
@@ -88,45 +87,6 @@ pushed n v reached queue tail s =
 pub pushed-queued : {n v : ℕ} {reached queue : List ℕ} {tail : ℕ} {reached′ queue′ : List ℕ} {r : ℕ} → Pushed n v reached queue tail reached′ queue′ r → Queued n reached′ queue′ r
 pushed-queued {n} {reached′ = marks} {queue′ = places} q = subst (λ (k : ℕ). Queued n marks places k) (sym (q .one-more)) (q .queued)
 
--- the marks that are left are in the queue from place i on
-pub record Clearing (n : ℕ) (queue : List ℕ) (tail : ℕ) (reached : List ℕ) (i : ℕ) : Type 0 where
-  pub long : length reached ≡ n
-  pub left : (v : ℕ) → v < n → getD reached v 0 ≢ 0 → (j : ℕ) × (i ≤ j) × (j < tail) × (getD queue j 0 ≡ v)
-
-pub clearing-none : {n : ℕ} {reached queue : List ℕ} {tail : ℕ} → Queued n reached queue tail → Clearing n queue tail reached 0
-clearing-none {n} {reached} {queue} {tail} q = record { long = q .reached-long; left = found }
-  where
-    found : (v : ℕ) → v < n → getD reached v 0 ≢ 0 → (j : ℕ) × (0 ≤ j) × (j < tail) × (getD queue j 0 ≡ v)
-    found v l ne =
-        let f = q .flag v l in
-        let p = q .place v l (omega arith) in
-        (p .0, omega arith, p .1, p .2)
-
-pub clearing-more : {n : ℕ} {queue : List ℕ} {tail : ℕ} {reached : List ℕ} {i : ℕ} → Clearing n queue tail reached i → getD queue i 0 < n → Clearing n queue tail (set reached (getD queue i 0) 0) (i + 1)
-clearing-more {n} {queue} {tail} {reached} {i} c m =
-    record { long = length-set reached w 0 ∙ c .long; left = λ v l ne. found v l ne (ℕ-discrete v w) }
-  where
-    w : ℕ
-    w = getD queue i 0
-
-    in-reached : w < length reached
-    in-reached = omega (arith, m, c .long)
-
-    found : (v : ℕ) → v < n → getD (set reached w 0) v 0 ≢ 0 → Dec (v ≡ w) → (j : ℕ) × (i + 1 ≤ j) × (j < tail) × (getD queue j 0 ≡ v)
-    found v l ne (yes e) =
-        absurd (ne (ap (λ (k : ℕ). getD (set reached w 0) k 0) e ∙ getD-set-same reached w 0 0 in-reached))
-    found v l ne (no d) =
-        let p = c .left v l (λ z. ne (getD-set-other reached w v 0 0 d ∙ z)) in
-        let apart : p .0 ≢ i = λ e. d (sym (p .3) ∙ ap (λ (k : ℕ). getD queue k 0) e) in
-        (p .0, omega (arith, p .1), p .2, p .3)
-
-pub clearing-all : {n : ℕ} {queue : List ℕ} {tail : ℕ} {reached : List ℕ} {i : ℕ} → Clearing n queue tail reached i → tail ≤ i → Filled reached 0
-clearing-all {n} {queue} {tail} {reached} {i} c l =
-    record { all = λ v m. elim (ℕ-discrete (getD reached v 0) 0) [ yes e ↦ e | no ne ↦ absurd (none v m ne) ] }
-  where
-    none : (v : ℕ) → v < length reached → getD reached v 0 ≢ 0 → ⊥
-    none v m ne = let p = c .left v (omega (arith, c .long)) ne in omega (arith, p .1, p .2)
-
 -- The same in the work space.
 
 -- no marks, no queue
@@ -164,37 +124,3 @@ pushed-in {n} {v} {work} {tail} s =
 
     places : section 2 n after ≡ set (section 2 n work) tail v
     places = place .here ∙ ap (λ (l : List ℕ). set l tail v) (mark .other 2 (omega arith) (omega arith))
-
--- the marks that are left are in the queue from place i on
-pub record ClearingIn (n : ℕ) (work₀ : List ℕ) (tail : ℕ) (work : List ℕ) (i : ℕ) : Type 0 where
-  pub clearing : Clearing n (section 2 n work₀) tail (section 1 n work) i
-  pub queue : section 2 n work ≡ section 2 n work₀
-  pub beside : Beside n work₀ work
-
-module _ {n : ℕ} {work₀ : List ℕ} {tail : ℕ} (p : ClearableIn n work₀ tail) where
-  pub clearing-in-none : ClearingIn n work₀ tail work₀ 0
-  clearing-in-none = record { clearing = clearing-none (p .queued); queue = refl; beside = beside-none }
-
-  module _ {work : List ℕ} {i : ℕ} (c : ClearingIn n work₀ tail work i) where
-    long : length work ≡ 4 * n
-    long = c .beside .long ∙ p .long
-
-    is : i < tail → getD work (2 * n + i) 0 ≡ getD (section 2 n work₀) i 0
-    is l = section-read n work long 2 i refl (omega (arith, tail-bounded (p .queued))) ∙ ap (λ (s : List ℕ). getD s i 0) (c .queue)
-
-    pub clearing-in-vertex : i < tail → getD work (2 * n + i) 0 < n
-    clearing-in-vertex l = subst (λ (v : ℕ). v < n) (sym (is l)) (p .queued .vertex i l)
-
-    pub clearing-in-more : i < tail → ClearingIn n work₀ tail (set work (n + getD work (2 * n + i) 0) 0) (i + 1)
-    clearing-in-more l =
-        record {
-          clearing = rw (mark .here) (clearing-more (c .clearing) (p .queued .vertex i l));
-          queue = mark .other 2 (omega arith) (omega arith) ∙ c .queue;
-          beside = beside-more (c .beside) (beside-stored (omega arith) (omega arith) mark);
-        }
-      where
-        mark : Stored n 1 (getD (section 2 n work₀) i 0) 0 work (set work (n + getD work (2 * n + i) 0) 0)
-        mark = stored 1 _ long (omega (arith, is l)) (omega arith) (p .queued .vertex i l)
-
-    pub cleared : tail ≤ i → ClearedIn n work₀ work
-    cleared l = record { filled = clearing-all (c .clearing) l; queue = c .queue; beside = c .beside }

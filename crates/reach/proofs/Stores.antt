@@ -1,4 +1,4 @@
--- A store into a list, and a list that is filled cell by cell.
+-- A store into a list, and a list that is filled cell by cell; a work space that is filled with zero is zeroed.
 use Prim.Native.Nat.{ℕ, _+_, _<_, _≤_}
 use mathlib.Core.Path.{_≡_, refl, sym, subst, _∙_}
 use mathlib.Core.Logic.{_≢_}
@@ -8,6 +8,7 @@ use native.Mathlib.Decide.{ℕ-discrete}
 use native.Mathlib.Nat.{not-suc-le-zero}
 use lib.ListN.{length, getD, set, length-set}
 use lib.Seq.{getD-set-same, getD-set-other}
+use Rattle.game.specs.Buffers.{Zeroed}
 use Rattle.reach.specs.Lists.{Filled}
 
 -- what holds of the new value at its place, and of the old values elsewhere, holds after the store
@@ -34,3 +35,6 @@ filling-more {cells₀} {cells} {value} {i} f l =
 
 pub filling-all : {cells₀ cells : List ℕ} {value i : ℕ} → Filling cells₀ value cells i → length cells ≤ i → Filled cells value
 filling-all f l = record { all = λ k m. f .below k (omega arith) }
+
+pub filled-zeroed : {work work′ : List ℕ} → length work′ ≡ length work → Filled work′ 0 → Zeroed work work′
+filled-zeroed e f = record { long = e; zero = f .all }

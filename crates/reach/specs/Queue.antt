@@ -64,26 +64,32 @@ pub record Visited (n w : ℕ) (keys sources level choice : List ℕ) (bound : �
 
 -- The same of the work space: section 0 is the levels, section 1 the marks, section 2 the queue.
 
+-- v is no seed yet
 pub record SeedableIn (n v : ℕ) (work : List ℕ) (tail : ℕ) : Type 0 where
   pub long : length work ≡ 4 * n
   pub seedable : Seedable n v (section 1 n work) (section 2 n work) tail
 
+-- v is one more seed
 pub record PushedIn (n v : ℕ) (work : List ℕ) (tail : ℕ) (work′ : List ℕ) (r : ℕ) : Type 0 where
   pub pushed : Pushed n v (section 1 n work) (section 2 n work) tail (section 1 n work′) (section 2 n work′) r
   pub beside : Beside n work work′
 
+-- what the closure asks
 pub record ClosableIn (n : ℕ) (keys heads nexts sources choice work : List ℕ) (tail : ℕ) : Type 0 where
   pub long : length work ≡ 4 * n
   pub closable : Closable n keys heads nexts sources (section 0 n work) choice (section 1 n work) (section 2 n work) tail
 
+-- what the closure gives
 pub record ClosedIn (n : ℕ) (keys sources choice : List ℕ) (bound : ℕ) (work work′ : List ℕ) (r : ℕ) : Type 0 where
   pub closed : Closed n keys sources (section 0 n work) choice bound (section 1 n work) (section 1 n work′) (section 2 n work′) r
   pub beside : Beside n work work′
 
+-- what a visit to w asks
 pub record VisitableIn (n w : ℕ) (keys heads nexts sources choice work : List ℕ) (tail : ℕ) : Type 0 where
   pub long : length work ≡ 4 * n
   pub visitable : Visitable n w keys heads nexts sources (section 0 n work) choice (section 1 n work) (section 2 n work) tail
 
+-- what a visit to w gives
 pub record VisitedIn (n w : ℕ) (keys sources choice : List ℕ) (bound : ℕ) (work : List ℕ) (tail : ℕ) (work′ : List ℕ) (r : ℕ) : Type 0 where
   pub visited : Visited n w keys sources (section 0 n work) choice bound (section 1 n work) (section 2 n work) tail (section 1 n work′) (section 2 n work′) r
   pub beside : Beside n work work′

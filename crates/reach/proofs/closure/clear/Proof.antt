@@ -4,7 +4,8 @@ use Prim.Native.Nat.{_+_, _*_, _-_, _<_}
 use borrow.Author.Needs.{needs}
 use native.Mathlib.Omega.{arith}
 use lib.ListN.{getD}
-use Rattle.reach.proofs.Queues.{ClearingIn, clearing-in-none, clearing-in-vertex, clearing-in-more, cleared, tail-bounded}
+use Rattle.reach.proofs.Queues.{tail-bounded}
+use Rattle.reach.proofs.Clears.{ClearingIn, clearing-in-none, clearing-in-vertex, clearing-in-more, cleared}
 use Rattle.reach.proofs.closure.clear.Statement.{statement}
 use Rattle.reach.proofs.closure.clear.Tie as tie
 
