@@ -14,7 +14,7 @@ use Rattle.checker.specs.Tests.{Says, Comes}
 use Rattle.checker.specs.Rounds.{Backable}
 use Rattle.checker.proofs.Says.{says-eqb}
 
-module _ (n : ℕ) (stretch : List ℕ) (m : ℕ) (work : List ℕ) (b : Backable n stretch m work) where
+module _ {n : ℕ} {stretch : List ℕ} {m : ℕ} {work : List ℕ} (b : Backable n stretch m work) where
   -- the cell that is read for vertex w
   pub cell : (w c : ℕ) → w < n → c ≡ n + w → getD work c 0 ≡ getD (section 1 n work) w 0
   cell w c l e = section-read n work (b .long) 1 w (omega arith) l

@@ -39,31 +39,25 @@ module _ (g : Game) (mark move : ℕ → ℕ) (inside : (v w : ℕ) → v < g .n
         differs = λ e. f .differs (sym (ap mark (f .edge .listed .is)) ∙ e);
       }
 
-module _ (owners priorities starts targets winners moves : List ℕ) (a : Answered owners priorities starts targets winners moves) (v : ℕ) (l : v < length owners) where
+module _ {owners priorities starts targets winners moves : List ℕ} (a : Answered owners priorities starts targets winners moves) {v : ℕ} (l : v < length owners) where
   -- the successors of v are vertices, and have marks
-  pub stretch-inside : (r : List ℕ) → r ≡ nextOf starts targets v → (i : ℕ) → i < length r → getD r i 0 < length owners
-  stretch-inside r e i h =
+  pub stretch-inside : {r : List ℕ} → r ≡ nextOf starts targets v → (i : ℕ) → i < length r → getD r i 0 < length owners
+  stretch-inside {r} e i h =
       a .well-formed .sound .inside v (getD r i 0) l (subst (Listed (getD r i 0)) e (record { at = i; within = h; is = refl }))
 
-  pub stretch-marks : (r : List ℕ) → r ≡ nextOf starts targets v → (i : ℕ) → i < length r → getD r i 0 < markRoom winners
-  stretch-marks r e i h = omega (arith, stretch-inside r e i h, a .winners-long)
+  pub stretch-marks : {r : List ℕ} → r ≡ nextOf starts targets v → (i : ℕ) → i < length r → getD r i 0 < markRoom winners
+  stretch-marks e i h = omega (arith, stretch-inside e i h, a .winners-long)
+
+  abbrev g : Game
+  g = gameOf owners priorities starts targets
 
   -- what the tests by the stretch say of the rows
-  pub says12 : {r : List ℕ} {p m : ℕ} {b : Bool} → r ≡ nextOf starts targets v → p ≡ markOf winners v → m ≡ moveOf moves v → Says (WrongMove (markOf winners) r (getD owners v 0) p m) b → Says (Fault12 (gameOf owners priorities starts targets) (markOf winners) (moveOf moves) v) b
-  says12 {r} {p} {m} {b} er ep em s =
-      let s1 = subst (λ (x : List ℕ). Says (WrongMove (markOf winners) x (getD owners v 0) p m) b) er s in
-      let s2 = subst (λ (x : ℕ). Says (WrongMove (markOf winners) (nextOf starts targets v) (getD owners v 0) x m) b) ep s1 in
-      let s3 = subst (λ (x : ℕ). Says (WrongMove (markOf winners) (nextOf starts targets v) (getD owners v 0) (markOf winners v) x) b) em s2 in
-      says-iff
-      (fault12 (gameOf owners priorities starts targets) (markOf winners) (moveOf moves) (a .well-formed .sound .inside) v l)
-      (fault12-only (gameOf owners priorities starts targets) (markOf winners) (moveOf moves) (a .well-formed .sound .inside) v l)
-      s3
+  pub says12 : {r : List ℕ} {p m : ℕ} {b : Bool} → r ≡ nextOf starts targets v → p ≡ markOf winners v → m ≡ moveOf moves v → Says (WrongMove (markOf winners) r (getD owners v 0) p m) b → Says (Fault12 g (markOf winners) (moveOf moves) v) b
+  says12 er ep em s =
+      let inside = a .well-formed .sound .inside in
+      says-iff (fault12 g (markOf winners) (moveOf moves) inside v l) (fault12-only g (markOf winners) (moveOf moves) inside v l) (rw (er, ep, em) at s)
 
-  pub says13 : {r : List ℕ} {p : ℕ} {b : Bool} → r ≡ nextOf starts targets v → p ≡ markOf winners v → Says (Escape (markOf winners) r (getD owners v 0) p) b → Says (Fault13 (gameOf owners priorities starts targets) (markOf winners) (moveOf moves) v) b
-  says13 {r} {p} {b} er ep s =
-      let s1 = subst (λ (x : List ℕ). Says (Escape (markOf winners) x (getD owners v 0) p) b) er s in
-      let s2 = subst (λ (x : ℕ). Says (Escape (markOf winners) (nextOf starts targets v) (getD owners v 0) x) b) ep s1 in
-      says-iff
-      (fault13 (gameOf owners priorities starts targets) (markOf winners) (moveOf moves) (a .well-formed .sound .inside) v l)
-      (fault13-only (gameOf owners priorities starts targets) (markOf winners) (moveOf moves) (a .well-formed .sound .inside) v l)
-      s2
+  pub says13 : {r : List ℕ} {p : ℕ} {b : Bool} → r ≡ nextOf starts targets v → p ≡ markOf winners v → Says (Escape (markOf winners) r (getD owners v 0) p) b → Says (Fault13 g (markOf winners) (moveOf moves) v) b
+  says13 er ep s =
+      let inside = a .well-formed .sound .inside in
+      says-iff (fault13 g (markOf winners) (moveOf moves) inside v l) (fault13-only g (markOf winners) (moveOf moves) inside v l) (rw (er, ep) at s)

@@ -9,7 +9,7 @@ use native.Mathlib.Decide.{ℕ-discrete}
 use native.Mathlib.Nat.{not-suc-le-zero}
 use lib.ListN.{length, getD}
 use Rattle.player.specs.Player.{parityOf}
-use Rattle.game.specs.Game.{Listed}
+use Rattle.game.specs.Game.{Game, Listed}
 use Rattle.game.specs.Tables.{nextOf, gameOf}
 use Rattle.game.specs.Answer.{markOf, moveOf}
 use Rattle.winning.specs.Answer.{noMove, Fault14}
@@ -19,22 +19,28 @@ use Rattle.reach.specs.Closure.{ClosedFrom, Queued}
 use Rattle.reach.specs.Queue.{SeedableIn, PushedIn, ClosableIn, ClosedIn, ClearableIn, ClearedIn}
 use Rattle.reach.proofs.Sections.{section-long}
 use Rattle.reach.proofs.Queues.{pushed-queued, cleared-queued}
-use Rattle.checker.specs.Tests.{Says, Comes, Single}
+use Rattle.checker.specs.Tests.{Says, Comes}
 use Rattle.checker.specs.Rounds.{Rounding, Backable, Ready}
 use Rattle.checker.proofs.Says.{says-iff}
 use Rattle.checker.proofs.Stretches.{stretch-inside}
-use Rattle.checker.proofs.Rounds as rounds
+use Rattle.checker.proofs.Rounds.{Single, fault14, fault14-only}
 
 -- where nothing is queued nothing is marked
 zero-marks : {n : ℕ} {reached queue : List ℕ} → Queued n reached queue 0 → (v : ℕ) → v < n → getD reached v 0 ≡ 0
 zero-marks {n} {reached} q v l =
     elim (ℕ-discrete (getD reached v 0) 1) [ yes e ↦ absurd (not-suc-le-zero (q .place v l e .1)) | no ne ↦ omega (arith, q .flag v l) ]
 
-module _ (x : ℕ) (owners priorities starts targets winners moves heads nexts sources work : List ℕ) (r : Rounding x owners priorities starts targets winners moves heads nexts sources work) where
-  b : Backed (gameOf owners priorities starts targets) (markOf winners) (moveOf moves)
-  b = backed (gameOf owners priorities starts targets) (markOf winners) (moveOf moves) (r .passed .no11) (r .passed .no12) (r .passed .no13)
+module _ {x : ℕ} {owners priorities starts targets winners moves heads nexts sources work : List ℕ} (r : Rounding x owners priorities starts targets winners moves heads nexts sources work) where
+  abbrev n : ℕ
+  n = length owners
 
-  pub seedable : SeedableIn (length owners) x work 0
+  abbrev g : Game
+  g = gameOf owners priorities starts targets
+
+  b : Backed g (markOf winners) (moveOf moves)
+  b = backed g (markOf winners) (moveOf moves) (r .passed .no11) (r .passed .no12) (r .passed .no13)
+
+  pub seedable : SeedableIn n x work 0
   seedable =
       record {
         long = r .ready .long;
@@ -47,14 +53,14 @@ module _ (x : ℕ) (owners priorities starts targets winners moves heads nexts s
             };
       }
 
-  module _ (work1 : List ℕ) (one : ℕ) (p : PushedIn (length owners) x work 0 work1 one) where
-    long1 : length work1 ≡ 4 * length owners
+  module _ {work1 : List ℕ} {one : ℕ} (p : PushedIn n x work 0 work1 one) where
+    long1 : length work1 ≡ 4 * n
     long1 = p .beside .long ∙ r .ready .long
 
-    levels1 : section 0 (length owners) work1 ≡ priorities
+    levels1 : section 0 n work1 ≡ priorities
     levels1 = p .beside .levels ∙ r .ready .levels
 
-    single : Single (length owners) (section 1 (length owners) work1) x
+    single : Single n (section 1 n work1) x
     single =
         record {
           here = p .pushed .seeded .here;
@@ -64,7 +70,7 @@ module _ (x : ℕ) (owners priorities starts targets winners moves heads nexts s
         apart : _≡_ {A = ℕ} 1 0 → ⊥
         apart e = omega arith
 
-    pub closable : ClosableIn (length owners) targets heads nexts sources moves work1 one
+    pub closable : ClosableIn n targets heads nexts sources moves work1 one
     closable =
         record {
           long = long1;
@@ -72,45 +78,43 @@ module _ (x : ℕ) (owners priorities starts targets winners moves heads nexts s
               record {
                 preds = r .preds;
                 small = r .passed .answered .well-formed .sound .few;
-                level-long = section-long (length owners) work1 long1 0 (omega arith);
+                level-long = section-long n work1 long1 0 (omega arith);
                 choice-long = r .passed .answered .moves-long;
                 queued = pushed-queued (p .pushed);
               };
         }
 
-    module _ (work2 : List ℕ) (bound tail : ℕ) (is-bound : bound ≡ getD priorities x 0) (c : ClosedIn (length owners) targets sources moves bound work1 work2 tail) where
-      long2 : length work2 ≡ 4 * length owners
+    module _ {work2 : List ℕ} {bound tail : ℕ} (is-bound : bound ≡ getD priorities x 0) (c : ClosedIn n targets sources moves bound work1 work2 tail) where
+      long2 : length work2 ≡ 4 * n
       long2 = c .beside .long ∙ long1
 
-      closed2 : ClosedFrom (length owners) targets sources priorities moves (getD priorities x 0) (section 1 (length owners) work1) (section 1 (length owners) work2)
-      closed2 =
-          subst (λ (k : ℕ). ClosedFrom (length owners) targets sources priorities moves k (section 1 (length owners) work1) (section 1 (length owners) work2)) is-bound
-          (subst (λ (l : List ℕ). ClosedFrom (length owners) targets sources l moves bound (section 1 (length owners) work1) (section 1 (length owners) work2)) levels1 (c .closed .closed))
+      closed2 : ClosedFrom n targets sources priorities moves (getD priorities x 0) (section 1 n work1) (section 1 n work2)
+      closed2 = rw (is-bound, levels1) at (c .closed .closed)
 
-      pub backable : (stretch : List ℕ) (m : ℕ) → stretch ≡ nextOf starts targets x → m ≡ moveOf moves x → Backable (length owners) stretch m work2
-      backable stretch m e em =
+      pub backable : {stretch : List ℕ} {m : ℕ} → stretch ≡ nextOf starts targets x → m ≡ moveOf moves x → Backable n stretch m work2
+      backable {stretch} {m} e em =
           record {
             long = long2;
-            inside = stretch-inside owners priorities starts targets winners moves (r .passed .answered) x (r .vertex) stretch e;
+            inside = stretch-inside (r .passed .answered) (r .vertex) e;
             listed = λ ne. subst (Listed m) (sym e) (subst (λ (k : ℕ). Listed k (nextOf starts targets x)) (sym em) (own ne));
           }
         where
           own : m ≢ noMove → Listed (moveOf moves x) (nextOf starts targets x)
           own ne = elim (ℕ-discrete (getD owners x 0) (markOf winners x)) [ yes o ↦ b .owned x (r .vertex) o .0 .listed | no o ↦ absurd (ne (em ∙ b .elsewhere x (r .vertex) o)) ]
 
-      pub says14 : (stretch : List ℕ) (m : ℕ) (back : Bool) → stretch ≡ nextOf starts targets x → m ≡ moveOf moves x → parityOf (getD priorities x 0) ≢ markOf winners x → Says (Comes stretch m (section 1 (length owners) work2)) back → Says (Fault14 (gameOf owners priorities starts targets) (markOf winners) (moveOf moves) x) back
-      says14 stretch m back e em lost s =
+      pub says14 : {stretch : List ℕ} {m : ℕ} {back : Bool} → stretch ≡ nextOf starts targets x → m ≡ moveOf moves x → parityOf (getD priorities x 0) ≢ markOf winners x → Says (Comes stretch m (section 1 n work2)) back → Says (Fault14 g (markOf winners) (moveOf moves) x) back
+      says14 e em lost s =
+          let sound = r .passed .answered .well-formed .sound in
           says-iff
-          (rounds.fault14 owners priorities starts targets winners moves sources (r .passed .answered .well-formed .sound) (r .edges) b x lost (r .vertex) (section 1 (length owners) work1) (section 1 (length owners) work2) single closed2)
-          (rounds.fault14-only owners priorities starts targets winners moves sources (r .passed .answered .well-formed .sound) (r .edges) b x lost (r .vertex) (section 1 (length owners) work1) (section 1 (length owners) work2) single closed2)
-          (subst (λ (k : ℕ). Says (Comes (nextOf starts targets x) k (section 1 (length owners) work2)) back) em
-          (subst (λ (l : List ℕ). Says (Comes l m (section 1 (length owners) work2)) back) e s))
+          (fault14 owners priorities starts targets winners moves sources sound (r .edges) b x lost (r .vertex) _ _ single closed2)
+          (fault14-only owners priorities starts targets winners moves sources sound (r .edges) b x lost (r .vertex) _ _ single closed2)
+          (rw (e, em) at s)
 
-      pub clearable : ClearableIn (length owners) work2 tail
+      pub clearable : ClearableIn n work2 tail
       clearable = record { long = long2; small = r .passed .answered .well-formed .sound .few; queued = c .closed .queued }
 
-      pub ready-again : (work3 : List ℕ) → ClearedIn (length owners) work2 work3 → Ready (length owners) priorities work3
-      ready-again work3 d =
+      pub ready-again : {work3 : List ℕ} → ClearedIn n work2 work3 → Ready n priorities work3
+      ready-again d =
           record {
             long = d .beside .long ∙ long2;
             levels = d .beside .levels ∙ (c .beside .levels ∙ levels1);

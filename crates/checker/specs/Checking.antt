@@ -23,10 +23,11 @@ module _ (owners priorities starts targets winners moves : List ℕ) where
   abbrev pub judgeRows : List Row
   judgeRows = answerRows (gameOf owners priorities starts targets) (markOf winners) (moveOf moves)
 
-  -- "Solver and checker test 1 to 7, then 8, then (checker) 11 to 14."
+  -- 8, then 11 to 14: what is tested on tables that have passed
   abbrev pub afterTables : List ℕ → List Row
   afterTables work = record { number = 8; applies = Fault8 (length owners) (length winners) (length moves) (length work) } ∷ judgeRows
 
+  -- "Solver and checker test 1 to 7, then 8, then (checker) 11 to 14."
   abbrev pub checkRows : List ℕ → List Row
   checkRows work = tableRows owners priorities starts targets ++ afterTables work
 

@@ -43,6 +43,7 @@ module _ (owners priorities starts targets winners moves : List ℕ) where
     pub no12 : NoPlace (Fault12 (gameOf owners priorities starts targets) (markOf winners) (moveOf moves))
     pub no13 : NoPlace (Fault13 (gameOf owners priorities starts targets) (markOf winners) (moveOf moves))
 
+  -- what the test 14 asks: besides, a work space all zero
   pub record LostAsked (work : List ℕ) : Type 0 where
     pub passed : PassedTo14
     pub work-long : length work ≡ 4 * length owners

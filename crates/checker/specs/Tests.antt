@@ -36,8 +36,3 @@ pub record Comes (next : List ℕ) (m : ℕ) (marks : List ℕ) : Type 0 where
   pub listed : Listed to next
   pub fixed : m ≢ noMove → to ≡ m
   pub marked : getD marks to 0 ≡ 1
-
--- only x is marked
-pub record Single (n : ℕ) (marks : List ℕ) (x : ℕ) : Type 0 where
-  pub here : getD marks x 0 ≡ 1
-  pub only : (u : ℕ) → u < n → getD marks u 0 ≡ 1 → u ≡ x

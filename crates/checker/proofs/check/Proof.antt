@@ -1,4 +1,5 @@
--- The tables' rows, the lengths, and then what `judge` says (Verdicts).
+-- `checker::check` meets its contract: the tables' rows, the lengths, and then what `judge` says (Verdicts).
+-- Assumes nothing.
 use borrow.Author.Needs.{needs}
 use Rattle.checker.proofs.Verdicts.{checked-tables, checked-lengths, checked-judged}
 use Rattle.game.proofs.Stores.{room-is}
@@ -9,9 +10,10 @@ use Rattle.game.specs.Buffers.{Fault8}
 use Rattle.game.specs.Faults.{tableRows}
 use Rattle.game.specs.Tables.{WellFormed}
 use Rattle.refusal.specs.Found.{found-at, found-nowhere}
-use Rattle.refusal.specs.Row.{None}
+use Rattle.refusal.specs.Row.{None, NoPlace}
 use denote.Ref.{now}
 use native.Mathlib.Omega.{arith}
+use lib.ListN.{length}
 use mathlib.Core.Path.{_∙_}
 use Rattle.checker.proofs.check.Statement.{statement}
 use Rattle.checker.proofs.check.Tie as tie
@@ -25,6 +27,12 @@ none1 c = tables-passed _ (c .enum-told .given .1) (c .before .before .test-tabl
 
 formed : (c : tie.After-enum-told) → WellFormed (now (start1 c .args .owners)) (now (start1 c .args .priorities)) (now (start1 c .args .starts)) (now (start1 c .args .targets))
 formed c = well-formed _ _ _ _ (λ v. omega (arith, c .before .before .before .before .before .before .before .before .shared-slice-known2 .given v)) (none1 c)
+
+abbrev lent1 : tie.After-enum-told2 → tie.After-lengths
+lent1 c = c .before .before
+
+none8 : (c : tie.After-enum-told2) → NoPlace (Fault8 (length (now (start1 (lent1 c .before) .args .owners))) (length (now (start1 (lent1 c .before) .args .winners))) (length (now (start1 (lent1 c .before) .args .moves))) (length (now (start1 (lent1 c .before) .args .work))))
+none8 c = found-nowhere (Fault8 _ _ _ _) (c .enum-told2 .given .1) (lent1 c .lengths .ensures)
 
 test-tables-requires : tie.Need-test-tables-requires
 test-tables-requires c κs = search needs
@@ -48,21 +56,26 @@ refused-requires : tie.Need-refused-requires
 refused-requires c κs = search needs
 
 returns-2 : tie.Need-returns-2
-returns-2 c = checked-lengths _ _ _ _ _ _ _ (c .refused .ensures) (none1 (c .before .before .before .before .before)) (found-at (Fault8 _ _ _ _) (c .before .before .lent .given .1) (c .before .before .before .before .lengths .ensures))
+returns-2 c =
+    let l = c .before .before .before .before in
+    checked-lengths _ _ _ _ _ _ _ (c .refused .ensures) (none1 (l .before)) (found-at (Fault8 _ _ _ _) (c .before .before .lent .given .1) (l .lengths .ensures))
 
 enum-told-2 : tie.Need-enum-told-2
 enum-told-2 c = search needs
 
 judge-requires : tie.Need-judge-requires
 judge-requires c κs =
-    let l = lent-of-none _ _ _ _ (found-nowhere (Fault8 _ _ _ _) (c .before .enum-told2 .given .1) (c .before .before .before .lengths .ensures)) in
-    record { answered = record { well-formed = formed (c .before .before .before .before); winners-long = room-is _ ∙ l .winners-are; moves-long = l .moves-are }; work-long = l .work-are }
+    let l = lent-of-none _ _ _ _ (none8 (c .before)) in
+    record { answered = record { well-formed = formed (lent1 (c .before) .before); winners-long = room-is _ ∙ l .winners-are; moves-long = l .moves-are }; work-long = l .work-are }
 
 same-length : tie.Need-same-length
 same-length c = search needs
 
 returns-3 : tie.Need-returns-3
-returns-3 c = checked-judged _ _ _ _ _ _ _ _ (c .before .before .judge .result) (none1 (c .before .before .before .before .before .before .before)) (found-nowhere (Fault8 _ _ _ _) (c .before .before .before .before .enum-told2 .given .1) (c .before .before .before .before .before .before .lengths .ensures)) (c .before .before .judge .ensures)
+returns-3 c =
+    let j = c .before .before in
+    let t = j .before .before in
+    checked-judged _ _ _ _ _ _ _ _ (j .judge .result) (none1 (lent1 t .before)) (none8 t) (j .judge .ensures)
 
 pub check-spec : {M : Type 1} → statement M
 check-spec =

@@ -1,13 +1,13 @@
--- A scan of the stretch; the invariant is that every successor passed has the mark.
+-- `checker::answers::is_escape` meets its contract. A scan of the stretch; the invariant: every successor passed has the mark.
+-- Assumes nothing.
 use borrow.Author.Needs.{needs}
 use Rattle.checker.proofs.Says.{says-yes, says-no}
 use borrow.Author.Count.{below-none, below-more}
 use lib.ListN.{length, getD}
-use mathlib.Core.Path.{_≡_}
 use Prim.Native.Nat.{ℕ, _≤_, _<_, _-_}
 use native.Mathlib.Omega.{arith}
 use Rattle.game.specs.Answer.{markOf}
-use mathlib.Core.Path.{sym, ap, _∙_}
+use mathlib.Core.Path.{_≡_, sym, ap, _∙_}
 use Rattle.checker.proofs.answers.is_escape.Statement.{statement}
 use Rattle.checker.proofs.answers.is_escape.Tie as tie
 
@@ -36,7 +36,9 @@ mark-requires : tie.Need-mark-requires Inv-loop μ-loop
 mark-requires c κs = rw (c .wide .ensures) (c .before .before .before .before .before .before .before .pre _ (search needs))
 
 returns-2 : tie.Need-returns-2 Inv-loop μ-loop
-returns-2 c = says-yes (record { loser = c .before .before .before .before .before .before .if1 .left; at = c .before .before .before .before .before .loop .i; within = search needs; differs = λ e. c .if2 .taken (c .before .mark .ensures ∙ ap (markOf _) (c .before .before .wide .ensures) ∙ e) })
+returns-2 c =
+    let l = c .before .before .before .before .before in
+    says-yes (record { loser = l .before .if1 .left; at = l .loop .i; within = search needs; differs = λ e. c .if2 .taken (c .before .mark .ensures ∙ ap (markOf _) (c .before .before .wide .ensures) ∙ e) })
 
 add-i : tie.Need-add-i Inv-loop μ-loop
 add-i c = search needs

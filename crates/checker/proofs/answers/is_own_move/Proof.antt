@@ -1,4 +1,5 @@
--- The membership test, and then the mark of the move.
+-- `checker::answers::is_own_move` meets its contract: the membership test, and then the mark of the move.
+-- Assumes nothing.
 use borrow.Author.Needs.{needs}
 use Rattle.checker.proofs.Says.{says-no, says-eqb}
 use Rattle.game.specs.Answer.{markOf}

@@ -1,4 +1,5 @@
--- A scan of the stretch; the invariant is that no successor passed is w.
+-- `checker::answers::is_successor` meets its contract. A scan of the stretch; the invariant: no successor passed is w.
+-- Assumes nothing.
 use borrow.Author.Needs.{needs}
 use Rattle.checker.proofs.Says.{says-yes, says-no}
 use Rattle.refusal.specs.Found.{Scanned, scan-none, scan-more}

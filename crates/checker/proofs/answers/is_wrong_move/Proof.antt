@@ -1,4 +1,5 @@
--- By the owner: his move, or none.
+-- `checker::answers::is_wrong_move` meets its contract, by the owner: his move, or none.
+-- Assumes nothing.
 use borrow.Author.Needs.{needs}
 use mathlib.Core.Path.{_≡_}
 use Rattle.checker.proofs.Says.{says-not, says-eqb}

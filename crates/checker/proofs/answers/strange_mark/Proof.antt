@@ -1,4 +1,5 @@
--- Row 11: a scan; the invariant is that no mark passed is strange.
+-- `checker::answers::strange_mark` meets its contract. Row 11 is a scan; the invariant: no mark passed is strange.
+-- Assumes nothing.
 use borrow.Author.Needs.{needs}
 use Rattle.winning.specs.Answer.{Fault11}
 use Rattle.game.specs.Tables.{gameOf}
@@ -17,11 +18,14 @@ Inv-loop owners priorities starts targets winners moves n v₀ v = (v ≤ length
 abbrev μ-loop : tie.MeasureT-loop
 μ-loop owners priorities starts targets winners moves n v₀ v = length owners - v
 
+abbrev start : tie.At-loop Inv-loop μ-loop → tie.Start Inv-loop μ-loop
+start c = c .before .before .before .before .before .before .before
+
 loop-holds : tie.Need-loop-holds Inv-loop μ-loop
 loop-holds c = (search needs, refl, scan-none)
 
 mark-requires : tie.Need-mark-requires Inv-loop μ-loop
-mark-requires c κs = omega (arith, c .before .before .before .before .before .before .before .before .pre .winners-long)
+mark-requires c κs = omega (arith, start (c .before) .pre .winners-long)
 
 returns : tie.Need-returns Inv-loop μ-loop
 returns c = scan-found (c .before .before .before .loop .inv .2) (record { vertex = search needs; strange = λ l. omega (arith, c .before .mark .ensures) })

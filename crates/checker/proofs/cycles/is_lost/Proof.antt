@@ -1,4 +1,5 @@
--- Call by call: seed, close, look for a step back, clear (Turns).
+-- `checker::cycles::is_lost` meets its contract, call by call: seed, close, look for a step back, clear (Turns).
+-- Assumes nothing.
 use borrow.Author.Needs.{needs}
 use Rattle.checker.proofs.Turns.{seedable, closable, backable, says14, clearable, ready-again}
 use Rattle.checker.proofs.Says.{says-no}
@@ -8,50 +9,89 @@ use native.Mathlib.Omega.{arith}
 use Rattle.checker.proofs.cycles.is_lost.Statement.{statement}
 use Rattle.checker.proofs.cycles.is_lost.Tie as tie
 
+-- the way back from each call to the one before it, and to the entry
+abbrev start : tie.After-shared-slice-known10 → tie.Start
+start c = c .before .before .before .before .before .before .before .before .before .before .before
+
+abbrev at-parity : tie.Else1 → tie.After-of-priority
+at-parity c = c .before .before .before
+
+abbrev at-test : tie.After-seed → tie.Else1
+at-test c = c .before .before .before
+
+abbrev at-seed : tie.After-close → tie.After-seed
+at-seed c = c .before .before .before .before
+
+abbrev at-close : tie.After-comes-back → tie.After-close
+at-close c = c .before .before .before .before .before .before
+
+abbrev asked : tie.Else1 → tie.Start
+asked c = start (at-parity c .before)
+
 shared-slice-read-of-priority : tie.Need-shared-slice-read-of-priority
-shared-slice-read-of-priority c = omega (arith, (c .before .before .before .before .before .before .before .before .before .before .before .pre) .vertex, (c .before .before .before .before .before .before .before .before .before .before .before .pre) .passed .answered .well-formed .level)
+shared-slice-read-of-priority c = let p = start c .pre in omega (arith, p .vertex, p .passed .answered .well-formed .level)
 
 of-priority-requires : tie.Need-of-priority-requires
 of-priority-requires c κs = search needs
 
 mark-requires : tie.Need-mark-requires
-mark-requires c κs = omega (arith, (c .before .before .before .before .before .before .before .before .before .before .before .before .pre) .vertex, (c .before .before .before .before .before .before .before .before .before .before .before .before .pre) .passed .answered .winners-long)
+mark-requires c κs = let p = start (c .before) .pre in omega (arith, p .vertex, p .passed .answered .winners-long)
 
 returns : tie.Need-returns
-returns c = record { says = says-no (λ f. f .lost (sym (c .before .before .before .of-priority .ensures) ∙ (c .if1 .taken ∙ c .before .before .mark .ensures))); ready = (c .before .before .before .before .before .before .before .before .before .before .before .before .before .before .before .pre) .ready }
+returns c =
+    let m = c .before .before in
+    let o = m .before in
+    record { says = says-no (λ f. f .lost (sym (o .of-priority .ensures) ∙ (c .if1 .taken ∙ m .mark .ensures))); ready = start (o .before) .pre .ready }
 
 shared-slice-read-bound : tie.Need-shared-slice-read-bound
-shared-slice-read-bound c = omega (arith, (c .before .before .before .before .before .before .before .before .before .before .before .before .before .before .before .before .pre) .vertex, (c .before .before .before .before .before .before .before .before .before .before .before .before .before .before .before .before .pre) .passed .answered .well-formed .level)
+shared-slice-read-bound c = let p = asked (c .before) .pre in omega (arith, p .vertex, p .passed .answered .well-formed .level)
 
 cast-bound : tie.Need-cast-bound
-cast-bound c = omega (arith, c .shared-slice-known11 .given (c .before .before .before .before .before .before .before .before .before .before .before .before .before .before .before .before .args .x))
+cast-bound c = omega (arith, c .shared-slice-known11 .given (asked (c .before) .args .x))
 
 seed-requires : tie.Need-seed-requires
-seed-requires c κs = seedable _ _ _ _ _ _ _ _ _ _ _ (c .before .before .before .before .before .before .before .before .before .before .before .before .before .before .before .before .before .pre)
+seed-requires c κs = seedable (asked (c .before .before) .pre)
 
 close-requires : tie.Need-close-requires
-close-requires c κs = closable _ _ _ _ _ _ _ _ _ _ _ (c .before .before .before .before .before .before .before .before .before .before .before .before .before .before .before .before .before .before .before .before .before .pre) _ _ (c .before .before .before .seed .ensures)
+close-requires c κs = let s = c .before .before .before in closable (asked (at-test s) .pre) (s .seed .ensures)
 
 successors-requires : tie.Need-successors-requires
-successors-requires c κs = stretch-of _ _ _ ((c .before .before .before .before .before .before .before .before .before .before .before .before .before .before .before .before .before .before .before .before .before .before .before .before .pre) .passed .answered .well-formed .placed) _ ((c .before .before .before .before .before .before .before .before .before .before .before .before .before .before .before .before .before .before .before .before .before .before .before .before .pre) .vertex)
+successors-requires c κs = let p = asked (at-test (at-seed (c .before .before))) .pre in stretch-of _ _ _ (p .passed .answered .well-formed .placed) _ (p .vertex)
 
 recorded-requires : tie.Need-recorded-requires
-recorded-requires c κs = omega (arith, (c .before .before .before .before .before .before .before .before .before .before .before .before .before .before .before .before .before .before .before .before .before .before .before .before .before .pre) .passed .answered .moves-long, (c .before .before .before .before .before .before .before .before .before .before .before .before .before .before .before .before .before .before .before .before .before .before .before .before .before .pre) .vertex)
+recorded-requires c κs = let p = asked (at-test (at-seed (c .before .before .before))) .pre in omega (arith, p .passed .answered .moves-long, p .vertex)
 
 comes-back-requires : tie.Need-comes-back-requires
-comes-back-requires c κs = backable _ _ _ _ _ _ _ _ _ _ _ (c .before .before .before .before .before .before .before .before .before .before .before .before .before .before .before .before .before .before .before .before .before .before .before .before .before .before .before .pre) _ _ (c .before .before .before .before .before .before .before .before .before .seed .ensures) _ _ _ refl (c .before .before .before .before .before .close .ensures) _ _ (c .before .before .successors .ensures) (c .before .recorded .ensures)
+comes-back-requires c κs =
+    let l = c .before .before .before .before .before in
+    let s = at-seed l in
+    backable (asked (at-test s) .pre) (s .seed .ensures) refl (l .close .ensures) (c .before .before .successors .ensures) (c .before .recorded .ensures)
 
 clear-requires : tie.Need-clear-requires
-clear-requires c κs = clearable _ _ _ _ _ _ _ _ _ _ _ (c .before .before .before .before .before .before .before .before .before .before .before .before .before .before .before .before .before .before .before .before .before .before .before .before .before .before .before .before .before .pre) _ _ (c .before .before .before .before .before .before .before .before .before .before .before .seed .ensures) _ _ _ refl (c .before .before .before .before .before .before .before .close .ensures)
+clear-requires c κs =
+    let l = at-close (c .before) in
+    let s = at-seed l in
+    clearable (asked (at-test s) .pre) (s .seed .ensures) refl (l .close .ensures)
 
 same-length : tie.Need-same-length
-same-length c = c .before .before .clear .ensures .beside .long ∙ (c .before .before .before .before .before .before .before .before .before .before .close .ensures .beside .long ∙ c .before .before .before .before .before .before .before .before .before .before .before .before .before .before .seed .ensures .beside .long)
+same-length c =
+    let d = c .before .before in
+    let l = at-close (d .before .before) in
+    d .clear .ensures .beside .long ∙ (l .close .ensures .beside .long ∙ at-seed l .seed .ensures .beside .long)
 
 returns-2 : tie.Need-returns-2
 returns-2 c =
+    let d = c .before .before in
+    let k = d .before .before in
+    let l = at-close k in
+    let s = at-seed l in
+    let e = at-test s in
+    let o = at-parity e in
     record {
-      says = says14 _ _ _ _ _ _ _ _ _ _ _ (c .before .before .before .before .before .before .before .before .before .before .before .before .before .before .before .before .before .before .before .before .before .before .before .before .before .before .before .before .before .before .before .before .pre) _ _ (c .before .before .before .before .before .before .before .before .before .before .before .before .before .before .seed .ensures) _ _ _ refl (c .before .before .before .before .before .before .before .before .before .before .close .ensures) _ _ _ (c .before .before .before .before .before .before .before .successors .ensures) (c .before .before .before .before .before .before .recorded .ensures) (λ e. c .before .before .before .before .before .before .before .before .before .before .before .before .before .before .before .before .before .if1 .left (c .before .before .before .before .before .before .before .before .before .before .before .before .before .before .before .before .before .before .before .before .of-priority .ensures ∙ (e ∙ sym (c .before .before .before .before .before .before .before .before .before .before .before .before .before .before .before .before .before .before .before .mark .ensures)))) (c .before .before .before .before .comes-back .ensures);
-      ready = ready-again _ _ _ _ _ _ _ _ _ _ _ (c .before .before .before .before .before .before .before .before .before .before .before .before .before .before .before .before .before .before .before .before .before .before .before .before .before .before .before .before .before .before .before .before .pre) _ _ (c .before .before .before .before .before .before .before .before .before .before .before .before .before .before .seed .ensures) _ _ _ refl (c .before .before .before .before .before .before .before .before .before .before .close .ensures) _ (c .before .before .clear .ensures);
+      says =
+          says14 (asked e .pre) (s .seed .ensures) refl (l .close .ensures) (k .before .before .before .successors .ensures) (k .before .before .recorded .ensures)
+          (λ same. e .if1 .left (o .of-priority .ensures ∙ (same ∙ sym (e .before .before .mark .ensures)))) (k .comes-back .ensures);
+      ready = ready-again (asked e .pre) (s .seed .ensures) refl (l .close .ensures) (d .clear .ensures);
     }
 
 pub is-lost-spec : {M : Type 1} → statement M

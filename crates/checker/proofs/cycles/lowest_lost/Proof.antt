@@ -1,4 +1,5 @@
--- Row 14: a scan; the work space is ready between two vertices.
+-- `checker::cycles::lowest_lost` meets its contract. Row 14 is a scan; the work space is ready between two vertices.
+-- Assumes nothing.
 use borrow.Author.Needs.{needs}
 use Rattle.checker.proofs.Rounds.{fault14-vertex}
 use Rattle.checker.specs.Rounds.{Ready}
@@ -14,24 +15,32 @@ use Rattle.checker.proofs.cycles.lowest_lost.Statement.{statement}
 use Rattle.checker.proofs.cycles.lowest_lost.Tie as tie
 
 abbrev Inv-loop : tie.InvT-loop
-Inv-loop owners priorities starts targets winners moves heads nexts sources work₀ n x₀ work x = (x ≤ length owners) × (n ≡ length owners) × (length work ≡ length work₀) × Ready (length owners) priorities work × Scanned (Fault14 (gameOf owners priorities starts targets) (markOf winners) (moveOf moves)) x
+Inv-loop owners priorities starts targets winners moves heads nexts sources work₀ n x₀ work x =
+    (x ≤ length owners) × (n ≡ length owners) × (length work ≡ length work₀) × Ready (length owners) priorities work × Scanned (Fault14 (gameOf owners priorities starts targets) (markOf winners) (moveOf moves)) x
 
 abbrev μ-loop : tie.MeasureT-loop
 μ-loop owners priorities starts targets winners moves heads nexts sources work₀ n x₀ work x = length owners - x
+
+-- the way back from a test to its turn of the loop, and to the entry
+abbrev start : tie.At-loop Inv-loop μ-loop → tie.Start Inv-loop μ-loop
+start c = c .before .before .before .before .before .before .before .before .before .before .before
+
+abbrev turn : tie.After-is-lost Inv-loop μ-loop → tie.At-loop Inv-loop μ-loop
+turn c = c .before .before .before
 
 loop-holds : tie.Need-loop-holds Inv-loop μ-loop
 loop-holds c = (search needs, refl, refl, c .before .before .before .before .before .before .before .before .before .before .pre .ready, scan-none)
 
 is-lost-requires : tie.Need-is-lost-requires Inv-loop μ-loop
 is-lost-requires c κs =
-    let r = c .before .before .before .before .before .before .before .before .before .before .before .before .before .pre in
+    let r = start (c .before .before) .pre in
     record { vertex = search needs; passed = r .passed; preds = r .preds; edges = r .edges; ready = c .before .before .loop .inv .3 }
 
 same-length : tie.Need-same-length Inv-loop μ-loop
-same-length c = c .before .before .before .is-lost .ensures .ready .long ∙ sym (c .before .before .before .before .before .before .before .before .before .before .before .before .before .before .before .before .before .pre .ready .long)
+same-length c = let t = c .before .before .before in t .is-lost .ensures .ready .long ∙ sym (start (turn t) .pre .ready .long)
 
 returns : tie.Need-returns Inv-loop μ-loop
-returns c = scan-found (c .before .before .before .before .before .before .loop .inv .4) (c .before .before .before .is-lost .ensures .says .holds (c .if1 .taken))
+returns c = let t = c .before .before .before in scan-found (turn t .loop .inv .4) (t .is-lost .ensures .says .holds (c .if1 .taken))
 
 add-x : tie.Need-add-x Inv-loop μ-loop
 add-x c = search needs
@@ -40,13 +49,14 @@ loop-less : tie.Need-loop-less Inv-loop μ-loop
 loop-less c = search needs
 
 loop-again : tie.Need-loop-again Inv-loop μ-loop
-loop-again c = (
-  search needs,
-  refl,
-  c .before .before .before .is-lost .ensures .ready .long ∙ sym (c .before .before .before .before .before .before .before .before .before .before .before .before .before .before .before .before .before .pre .ready .long),
-  c .before .before .before .is-lost .ensures .ready,
-  scan-more (c .before .before .before .before .before .before .loop .inv .4) (c .before .before .before .is-lost .ensures .says .fails (c .if1 .left)),
-)
+loop-again c =
+    let t = c .before .before .before in (
+      search needs,
+      refl,
+      t .is-lost .ensures .ready .long ∙ sym (start (turn t) .pre .ready .long),
+      t .is-lost .ensures .ready,
+      scan-more (turn t .loop .inv .4) (t .is-lost .ensures .says .fails (c .if1 .left)),
+    )
 
 same-length-2 : tie.Need-same-length-2 Inv-loop μ-loop
 same-length-2 c = c .before .loop .inv .2

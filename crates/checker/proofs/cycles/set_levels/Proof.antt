@@ -1,4 +1,5 @@
--- The priorities are in place below v (Levels).
+-- `checker::cycles::set_levels` meets its contract. The invariant, `Levelling`: the priorities below v are in place.
+-- Assumes nothing.
 use borrow.Author.Needs.{needs}
 use Rattle.checker.proofs.Levels.{Levelling, levels-none, levels-more, levels-all}
 use native.Mathlib.Omega.{arith}
