@@ -8,7 +8,7 @@ use native.Mathlib.Omega.{arith}
 use lib.ListN.{length}
 use Rattle.refusal.specs.declared.Refusal.{Refusal}
 use Rattle.refusal.specs.Number.{numberOf}
-use Rattle.refusal.specs.Row.{Row, Said, success, first-not-none, first-unique, first-number, none-right, none-append}
+use Rattle.refusal.specs.Row.{Row, Said, success, refused, first-not-none, first-unique, first-number, none-right, none-append}
 use Rattle.refusal.specs.Found.{refusal-unique}
 use Rattle.game.specs.Game.{Game}
 use Rattle.game.specs.Tables.{gameOf, WellFormed}
@@ -22,6 +22,13 @@ use Rattle.winning.proofs.Accepted.{accepted-right, right-accepted}
 use Rattle.checker.specs.declared.Verdict.{Verdict}
 use Rattle.checker.specs.declared.Verdict.the-variants as verdicts
 use Rattle.checker.specs.Checking.{verdictSaid, afterTables, checkRows, Checks}
+
+-- what is said determines the verdict
+said-unique : (v w : Verdict) → verdictSaid v ≡ verdictSaid w → v ≡ w
+said-unique verdicts.Accepted verdicts.Accepted e = refl
+said-unique verdicts.Accepted (verdicts.Refused r) e = let z : _≡_ {A = ℕ} 0 1 = cc in absurd (omega arith)
+said-unique (verdicts.Refused q) verdicts.Accepted e = let z : _≡_ {A = ℕ} 0 1 = cc in absurd (omega arith)
+said-unique (verdicts.Refused q) (verdicts.Refused r) e = ap verdicts.Refused (refusal-unique q r e)
 
 module _ (owners priorities starts targets winners moves work : List ℕ) where
   abbrev g : Game
@@ -39,18 +46,20 @@ module _ (owners priorities starts targets winners moves work : List ℕ) where
   abbrev Promised : List ℕ → Said → Type 0
   Promised = Checks owners priorities starts targets winners moves work
 
-  -- two outcomes on the same input have the same verdict and the same final work space
-  pub check-unique : (work1 work2 : List ℕ) (v w : Verdict) → Promised work1 (verdictSaid v) → Promised work2 (verdictSaid w) → (v ≡ w) × (work1 ≡ work2)
-  check-unique work1 work2 verdicts.Accepted verdicts.Accepted a b = (refl, zeroed-unique (a .zeroed) (b .zeroed))
-  check-unique work1 work2 verdicts.Accepted (verdicts.Refused r) a b =
-      absurd (first-not-none rows (numberOf (r .kind)) (r .place) (b .first) (a .none))
-  check-unique work1 work2 (verdicts.Refused q) verdicts.Accepted a b =
-      absurd (first-not-none rows (numberOf (q .kind)) (q .place) (a .first) (b .none))
-  check-unique work1 work2 (verdicts.Refused q) (verdicts.Refused r) a b =
-      let e = refusal-unique q r (first-unique rows (numberOf (q .kind)) (numberOf (r .kind)) (q .place) (r .place) (a .first) (b .first)) in
-      let k : numberOf (r .kind) ≡ numberOf (q .kind) = sym (ap (λ (x : Refusal). numberOf (x .kind)) e) in
-      let ten : numberOf (q .kind) ≢ 10 = first-number (λ (m : ℕ). m ≢ 10) rows (numberOf (q .kind)) (q .place) (omega arith) (a .first) in
-      (ap verdicts.Refused e, elim (decLt (numberOf (q .kind)) 10) [ yes l ↦ a .unchanged l ∙ sym (b .unchanged (omega arith)) | no h ↦ zeroed-unique (a .zeroed (omega arith)) (b .zeroed (omega arith)) ])
+  -- two outcomes on the same input say the same and leave the same work space
+  pub checks-unique : (work1 work2 : List ℕ) (v w : Said) → Promised work1 v → Promised work2 w → (v ≡ w) × (work1 ≡ work2)
+  checks-unique work1 work2 (success a) (success b) x y = (ap success (x .no-value ∙ sym (y .no-value)), zeroed-unique (x .zeroed) (y .zeroed))
+  checks-unique work1 work2 (success a) (refused l u) x y = absurd (first-not-none rows l u (y .first) (x .none))
+  checks-unique work1 work2 (refused k z) (success b) x y = absurd (first-not-none rows k z (x .first) (y .none))
+  checks-unique work1 work2 (refused k z) (refused l u) x y =
+      let e : refused k z ≡ refused l u = first-unique rows k l z u (x .first) (y .first) in
+      let same : k ≡ l = cc in
+      let ten : k ≢ 10 = first-number (λ (m : ℕ). m ≢ 10) rows k z (omega arith) (x .first) in
+      (e, elim (decLt k 10) [ yes h ↦ x .unchanged h ∙ sym (y .unchanged (omega arith)) | no h ↦ zeroed-unique (x .zeroed (omega arith)) (y .zeroed (omega arith)) ])
+
+  -- so no second verdict satisfies the promise
+  pub answer-unique : (work1 work2 : List ℕ) (v w : Verdict) → Promised work1 (verdictSaid v) → Promised work2 (verdictSaid w) → v ≡ w
+  answer-unique work1 work2 v w x y = said-unique v w (checks-unique work1 work2 (verdictSaid v) (verdictSaid w) x y .0)
 
   -- an answer that is handed over in full and accepted is right, and a right one is accepted
   pub accepted-is-right : (work′ : List ℕ) → Promised work′ (success []) → Right g (markOf winners) (moveOf moves)
