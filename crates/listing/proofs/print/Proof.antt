@@ -1,4 +1,4 @@
--- A prefix of the text.
+-- `listing::print` meets its contract. A prefix of the text.
 use borrow.Author.Needs.{needs}
 use mathlib.Core.Path.{sym}
 use lib.Seq.{length-take-le}

@@ -1,4 +1,4 @@
--- The part that was read is no longer than the file can be, and what is printed is the listing.
+-- `listing::show` meets its contract. The part that was read is no longer than the file can be, and what is printed is the listing.
 use borrow.Author.Needs.{needs}
 use mathlib.Core.Path.{refl, sym}
 use native.Mathlib.Omega.{arith}

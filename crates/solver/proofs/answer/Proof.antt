@@ -7,6 +7,10 @@ use borrow.Author.Needs.{needs}
 use Rattle.solver.proofs.answer.Statement.{statement}
 use Rattle.solver.proofs.answer.Tie as tie
 
+-- the way back from the opening to the start
+abbrev start : tie.After-open-all → tie.Start
+start c = c .before .before .before .before .before .before .before .before .before .before .before .before .before .before .before .before .before
+
 slice-aggregate-predecessors : tie.Need-slice-aggregate-predecessors
 slice-aggregate-predecessors c = search needs
 
@@ -32,7 +36,9 @@ slice-aggregate-settle-3 : tie.Need-slice-aggregate-settle-3
 slice-aggregate-settle-3 c = search needs
 
 settle-requires : tie.Need-settle-requires
-settle-requires c κs = settleable _ _ _ _ _ _ _ (c .before .before .before .before .before .before .before .before .before .before .before .before .before .before .before .before .before .before .before .before .before .before .before .before .before .before .before .pre) (c .before .before .before .before .before .before .before .before .before .before .open-all .ensures) (c .before .before .before .before .before .before .before .before .before .before .before .before .before .before .before .before .predecessors .ensures)
+settle-requires c κs =
+    let o = c .before .before .before .before .before .before .before .before .before .before in
+    settleable _ _ _ _ _ _ _ (start o .pre) (o .open-all .ensures) (o .before .before .before .before .before .before .predecessors .ensures)
 
 fill-requires : tie.Need-fill-requires
 fill-requires c κs = search needs
@@ -40,7 +46,9 @@ fill-requires c κs = search needs
 -- what stands in the lists at the end
 abbrev done : tie.Need-returns
 done c =
-    answered _ _ _ _ _ _ _ (c .before .before .before .before .before .before .before .before .before .before .before .before .before .before .before .before .before .before .before .before .before .before .before .before .before .before .before .before .before .before .before .before .before .before .before .before .before .before .pre) (c .before .before .before .before .before .before .before .before .before .before .before .before .before .before .before .before .before .before .before .before .before .open-all .ensures) (c .before .before .before .before .before .before .before .before .before .before .settle .ensures) (c .before .before .fill .ensures .0) (c .before .before .fill .ensures .1)
+    let s = c .before .before .before .before .before .before .before .before .before .before in
+    let o = s .before .before .before .before .before .before .before .before .before .before .before in
+    answered _ _ _ _ _ _ _ (start o .pre) (o .open-all .ensures) (s .settle .ensures) (c .before .before .fill .ensures .0) (c .before .before .fill .ensures .1)
 
 same-length : tie.Need-same-length
 same-length c = done c .winners-kept

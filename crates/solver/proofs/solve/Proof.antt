@@ -1,4 +1,5 @@
--- The tables' rows, the lengths, and then the answer (Outcomes).
+-- `solver::solve` meets its contract. The tables' rows, the lengths, and then the answer (Outcomes).
+-- Assumes nothing.
 use borrow.Author.Needs.{needs}
 use Rattle.solver.proofs.Outcomes.{solved-tables, solved-lengths, solved-answer}
 use Rattle.game.proofs.Stores.{room-is}

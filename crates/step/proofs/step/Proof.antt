@@ -7,23 +7,32 @@ use borrow.Author.Needs.{needs}
 use Rattle.step.proofs.step.Statement.{statement}
 use Rattle.step.proofs.step.Tie as tie
 
+-- the way back from the test of the winner to the read of the priority, and from the test of the vertex to the start
+abbrev start : tie.After-test → tie.Start
+start c = c .before .before .before .before .before .before .before .before .before .before .before .before .before .before
+
+abbrev at-known : tie.After-struct-known2 → tie.After-shared-slice-known8
+at-known c = c .before .before .before
+
 test-requires : tie.Need-test-requires
 test-requires c κs = testable (c .before .before .before .before .before .before .before .before .before .before .before .before .before .pre)
 
 shared-slice-read-own : tie.Need-shared-slice-read-own
-shared-slice-read-own c = in-priorities (c .before .before .before .before .before .before .before .before .before .before .before .before .before .before .before .pre)
+shared-slice-read-own c = in-priorities (start (c .before) .pre)
 
 of-priority-requires : tie.Need-of-priority-requires
 of-priority-requires c κs = search needs
 
 cast-keep : tie.Need-cast-keep
-cast-keep c = omega (arith, c .before .before .before .before .shared-slice-known8 .given (c .before .before .before .before .before .before .before .before .before .before .before .before .before .before .before .before .before .before .before .args .v))
+cast-keep c = let o = at-known (c .before) in omega (arith, o .shared-slice-known8 .given (start (o .before) .args .v))
 
 keep-requires : tie.Need-keep-requires
-keep-requires c κs = keepable (c .before .before .before .before .before .before .before .before .before .before .before .before .before .before .before .before .before .before .before .before .before .before .pre)
+keep-requires c κs = keepable (start (at-known (c .before .before .before .before) .before) .pre)
 
 cast-result : tie.Need-cast-result
-cast-result c = omega (arith, c .before .before .before .before .before .before .before .before .before .before .before .before .before .before .shared-slice-known8 .given (c .before .before .before .before .before .before .before .before .before .before .before .before .before .before .before .before .before .before .before .before .before .before .before .before .before .before .before .before .before .args .v))
+cast-result c =
+    let o = at-known (c .before .before .before .before .before .before .before .before .before .before .before) in
+    omega (arith, o .shared-slice-known8 .given (start (o .before) .args .v))
 
 same-length : tie.Need-same-length
 same-length c = search needs
@@ -38,10 +47,14 @@ same-length-4 : tie.Need-same-length-4
 same-length-4 c = search needs
 
 returns : tie.Need-returns
-returns c = kept-stepped (c .before .before .before .before .before .before .before .before .before .before .before .before .before .before .before .before .before .before .before .before .before .before .before .before .before .before .before .before .before .pre) (c .before .before .before .before .before .before .before .before .before .before .before .before .before .before .before .test .ensures) (c .before .before .before .before .before .before .before .before .before .before .if1 .taken ∙ c .before .before .before .before .before .before .before .before .before .before .before .before .before .of-priority .ensures) (c .before .before .before .before .before .before .keep .ensures .0) (c .before .before .before .before .before .before .keep .ensures .1 .0) (c .before .before .before .before .before .before .keep .ensures .1 .1)
+returns c =
+    let k = c .before .before .before .before .before .before in
+    let i = k .before .before .before .before in
+    let t = at-known (i .before) .before in
+    kept-stepped (start t .pre) (t .test .ensures) (i .if1 .taken ∙ i .before .before .before .of-priority .ensures) (k .keep .ensures .0) (k .keep .ensures .1 .0) (k .keep .ensures .1 .1)
 
 turn-requires : tie.Need-turn-requires
-turn-requires c κs = turnable (c .before .before .before .before .before .before .before .before .before .before .before .before .before .before .before .before .before .before .before .before .before .before .before .before .pre)
+turn-requires c κs = turnable (start (at-known (c .before .before .before .before .before .before) .before) .pre)
 
 same-length-5 : tie.Need-same-length-5
 same-length-5 c = search needs
@@ -59,7 +72,11 @@ same-length-9 : tie.Need-same-length-9
 same-length-9 c = search needs
 
 returns-2 : tie.Need-returns-2
-returns-2 c = turned-stepped (c .before .before .before .before .before .before .before .before .before .before .before .before .before .before .before .before .before .before .before .before .before .before .before .before .before .before .before .before .before .before .before .before .before .before .before .pre) (c .before .before .before .before .before .before .before .before .before .before .before .before .before .before .before .before .before .before .before .before .before .test .ensures) (λ e. c .before .before .before .before .before .before .before .before .before .before .before .before .before .before .before .before .if1 .left (e ∙ sym (c .before .before .before .before .before .before .before .before .before .before .before .before .before .before .before .before .before .before .before .of-priority .ensures))) (c .before .before .before .before .before .before .before .before .before .before .turn .kept .1 .1 .1 .1 .1 .1 .1 .1 .1 .1 .0) (c .before .before .before .before .before .before .before .before .before .before .turn .ensures)
+returns-2 c =
+    let k = c .before .before .before .before .before .before .before .before .before .before in
+    let i = k .before .before .before .before .before .before in
+    let t = at-known (i .before) .before in
+    turned-stepped (start t .pre) (t .test .ensures) (λ e. i .if1 .left (e ∙ sym (i .before .before .before .of-priority .ensures))) (k .turn .kept .1 .1 .1 .1 .1 .1 .1 .1 .1 .1 .0) (k .turn .ensures)
 
 pub step-spec : {M : Type 1} → statement M
 step-spec =

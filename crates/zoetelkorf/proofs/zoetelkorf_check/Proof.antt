@@ -1,4 +1,5 @@
--- What `check` says, as a number and a value (Telling).
+-- `zoetelkorf::zoetelkorf_check` meets its contract. What `check` says, as a number and a value (Telling).
+-- Assumes nothing.
 use borrow.Author.Needs.{needs}
 use Rattle.checker.specs.Checking.{verdictSaid, Checks}
 use Rattle.checker.specs.Checking.{verdictSaid}

@@ -1,4 +1,5 @@
--- What `read` says, as a number and a value (Telling).
+-- `zoetelkorf::zoetelkorf_read` meets its contract. What `read` says, as a number and a value (Telling).
+-- Assumes nothing.
 use borrow.Author.Needs.{needs}
 use Rattle.zoetelkorf.proofs.Telling.{sizes-small}
 use Rattle.housefile.specs.Reading.{readSaid, Reads}

@@ -1,4 +1,5 @@
--- What `solve` says, as a number and a value (Telling).
+-- `zoetelkorf::zoetelkorf_solve` meets its contract. What `solve` says, as a number and a value (Telling).
+-- Assumes nothing.
 use borrow.Author.Needs.{needs}
 use Rattle.solver.specs.Solving.{solvedSaid, Solves}
 use Rattle.solver.specs.Solving.{solvedSaid}

@@ -1,4 +1,5 @@
--- What `update` says, as a number and a value (Telling).
+-- `zoetelkorf::zoetelkorf_update` meets its contract. What `update` says, as a number and a value (Telling).
+-- Assumes nothing.
 use borrow.Author.Needs.{needs}
 use Rattle.update.specs.Updating.{updatedSaid, Updates}
 use Rattle.zoetelkorf.proofs.Telling.{told}

@@ -1,4 +1,5 @@
--- The rows 42, 43, 44 of one block, in their order.
+-- `housefile::block::block` meets its contract. The rows 42, 43, 44 of one block, in their order.
+-- Assumes nothing.
 use Rattle.housefile.proofs.Said.{refuses}
 use Rattle.housefile.specs.Faults.{Fault42, Fault43, Fault44}
 use Rattle.refusal.specs.Found.{found-at, found-nowhere}

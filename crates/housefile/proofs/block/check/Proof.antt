@@ -1,4 +1,5 @@
--- Row 42: the sum reduced is held against the stored check.
+-- `housefile::block::check` meets its contract. Row 42: the sum reduced is held against the stored check.
+-- Assumes nothing.
 use Rattle.housefile.proofs.BlockTests.{check-wrong, check-right}
 use native.Mathlib.Omega.{arith}
 use borrow.Author.Needs.{needs}

@@ -1,4 +1,5 @@
--- Row 43: the stored number and kind are held against those that the block's place gives.
+-- `housefile::block::kind` meets its contract. Row 43: the stored number and kind are held against those that the block's place gives.
+-- Assumes nothing.
 use Rattle.housefile.proofs.BlockTests.{number-wrong, kind-wrong, kind-right}
 use Prim.Native.Nat.{_+_, _*_}
 use native.Mathlib.Omega.{arith}

@@ -1,4 +1,5 @@
--- The kind of a block, by where it stands.
+-- `housefile::block::kind_of` meets its contract. The kind of a block, by where it stands.
+-- Assumes nothing.
 use Rattle.housefile.proofs.BlockKinds.{kind-vertex, kind-target}
 use mathlib.Core.Path.{sym, subst}
 use Prim.Native.Nat.{ℕ, _≤_, _<_}

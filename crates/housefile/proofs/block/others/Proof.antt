@@ -1,4 +1,5 @@
--- Row 44: byte 3, the used count, the unused part and, in block 0, the rule.
+-- `housefile::block::others` meets its contract. Row 44: byte 3, the used count, the unused part and, in block 0, the rule.
+-- Assumes nothing.
 use Rattle.housefile.proofs.BlockTests.{byte3-wrong, rule-wrong, used-wrong, unused-wrong, others-right}
 use Rattle.housefile.specs.Tests.{Stain}
 use Rattle.housefile.specs.Faults.{Fault44}

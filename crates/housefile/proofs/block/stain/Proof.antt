@@ -1,4 +1,5 @@
--- The lowest unused byte that is not zero. Invariant: none of those passed is.
+-- `housefile::block::stain` meets its contract. The lowest unused byte that is not zero. Invariant: none of those passed is.
+-- Assumes nothing.
 use Prim.Native.Nat.{_≤_, _-_}
 use Rattle.housefile.specs.Tests.{Stain}
 use Rattle.refusal.specs.Found.{Scanned, scan-more, scan-found, scan-all}

@@ -1,4 +1,5 @@
--- The payload bytes that a block uses, by where it stands.
+-- `housefile::block::used_of` meets its contract. The payload bytes that a block uses, by where it stands.
+-- Assumes nothing.
 use Prim.Native.Nat.{ℕ, _≤_, _<_, _-_, _*_, min}
 use mathlib.Core.Path.{sym, subst, _∙_, ap}
 use Rattle.housefile.proofs.BlockKinds.{used-vertex, used-target}

@@ -1,4 +1,5 @@
--- The weighted sum of a block. Invariant `Weight`: the sum of the terms passed, each at most 510 × 255.
+-- `housefile::block::weigh` meets its contract. The weighted sum of a block. Invariant `Weight`: the sum of the terms passed, each at most 510 × 255.
+-- Assumes nothing.
 use lib.ListN.{getD}
 use Prim.Native.Nat.{_+_, _<_, _-_}
 use Rattle.housefile.proofs.Weigh.{Weight, weight-none, weight-more, weight-all, term-small}

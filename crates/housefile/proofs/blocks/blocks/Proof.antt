@@ -1,4 +1,5 @@
--- Each block in turn. Invariant `Passing`: no row applies to the blocks passed.
+-- `housefile::blocks::blocks` meets its contract. Each block in turn. Invariant `Passing`: no row applies to the blocks passed.
+-- Assumes nothing.
 use denote.Ref.{now}
 use Rattle.housefile.proofs.InTurn.{Passing, passing-none, passing-more, total-is, passing-first, passing-all, passing-present}
 use Rattle.housefile.proofs.Said.{is-refused, is-passed}

@@ -1,4 +1,5 @@
--- Two bytes make a number below 65,536, the low byte first.
+-- `housefile::bytes::word` meets its contract. Two bytes make a number below 65,536, the low byte first.
+-- Assumes nothing.
 use Prim.Native.Nat.{_+_}
 use native.Mathlib.Omega.{arith}
 use borrow.Author.Needs.{needs}

@@ -1,4 +1,5 @@
--- The rows of the header in their order: 41, block 0's 42, 43, 44, then 1, then 41.
+-- `housefile::head::head` meets its contract. The rows of the header in their order: 41, block 0's 42, 43, 44, then 1, then 41.
+-- Assumes nothing.
 use Rattle.housefile.proofs.HeadTests.{headed, head-block, head-sizes, head-length, head-none}
 use Rattle.housefile.proofs.Said.{refuses, is-refused, is-passed}
 use Rattle.housefile.specs.Faults.{Fault41Short, FaultSizes, Fault41Length, blockRows}

@@ -1,4 +1,5 @@
--- Row 1 on the numbers in block 0.
+-- `housefile::head::sizes` meets its contract. Row 1 on the numbers in block 0.
+-- Assumes nothing.
 use Rattle.housefile.proofs.HeadTests.{sizes-right}
 use Rattle.housefile.specs.Faults.{no-vertex, over-2048, over-16384}
 use Rattle.refusal.specs.Found.{scan-none, scan-found}

@@ -1,4 +1,5 @@
--- The successor count that stands at a vertex's place.
+-- `housefile::places::count` meets its contract. The successor count that stands at a vertex's place.
+-- Assumes nothing.
 use Rattle.housefile.specs.Filed.{wordAt}
 use denote.Ref.{now}
 use Prim.Native.Nat.{ℕ, _+_}

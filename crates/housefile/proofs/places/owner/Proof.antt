@@ -1,4 +1,5 @@
--- The owner that stands at a vertex's place.
+-- `housefile::places::owner` meets its contract. The owner that stands at a vertex's place.
+-- Assumes nothing.
 use Rattle.housefile.proofs.Lists.{owner-at}
 use denote.Ref.{now}
 use lib.ListN.{getD}

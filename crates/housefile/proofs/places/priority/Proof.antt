@@ -1,4 +1,5 @@
--- The priority that stands at a vertex's place.
+-- `housefile::places::priority` meets its contract. The priority that stands at a vertex's place.
+-- Assumes nothing.
 use Rattle.housefile.proofs.Lists.{priority-at}
 use denote.Ref.{now}
 use lib.ListN.{getD}

@@ -1,4 +1,5 @@
--- The target that stands at an edge's place.
+-- `housefile::places::target` meets its contract. The target that stands at an edge's place.
+-- Assumes nothing.
 use Rattle.housefile.proofs.Lists.{target-at}
 use Rattle.housefile.specs.Filed.{wordAt}
 use denote.Ref.{now}

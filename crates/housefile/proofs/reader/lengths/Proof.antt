@@ -1,4 +1,5 @@
--- Row 8 on the four lent tables.
+-- `housefile::reader::lengths` meets its contract. Row 8 on the four lent tables.
+-- Assumes nothing.
 use Rattle.housefile.proofs.AllRows.{none-of-fixed}
 use Rattle.housefile.specs.Faults.{owners-long, priorities-long, starts-long, targets-long}
 use Rattle.refusal.specs.Found.{scan-none, scan-found}

@@ -1,4 +1,5 @@
--- The entry point: all rows in their order, each part after parts that pass; the tables are written after the last of them.
+-- `housefile::reader::read` meets its contract. The entry point: all rows in their order, each part after parts that pass; the tables are written after the last of them.
+-- Assumes nothing.
 use Rattle.housefile.proofs.AllRows.{Fixed, rows-head, rows-turn, rows-filed, rows-last, rows-none, fixed}
 use Rattle.housefile.specs.Faults.{Fault8, headRows, filedRows, fileRows}
 use mathlib.Core.List.{[], _∷_}

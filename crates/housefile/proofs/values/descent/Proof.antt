@@ -1,4 +1,5 @@
--- A stretch of the targets. Invariant: those passed ascend.
+-- `housefile::values::descent` meets its contract. A stretch of the targets. Invariant: those passed ascend.
+-- Assumes nothing.
 use Rattle.housefile.proofs.ValueTests.{descent-first, descent-here, descent-not, descent-within}
 use Rattle.housefile.specs.Filed.{targetsFiled}
 use Rattle.game.specs.Faults.{Descent}

@@ -1,4 +1,5 @@
--- The rows of the values in their order: 45, 2, 3, 5, 6, 7.
+-- `housefile::values::filed` meets its contract. The rows of the values in their order: 45, 2, 3, 5, 6, 7.
+-- Assumes nothing.
 use Rattle.housefile.proofs.ValueTests.{summed}
 use Rattle.housefile.proofs.Said.{refuses}
 use Rattle.housefile.specs.Tests.{Summed}

@@ -1,4 +1,5 @@
--- Row 7. Invariant `Ordering`: the stretches passed ascend, and the running sum is where the next begins.
+-- `housefile::values::order` meets its contract. Row 7. Invariant `Ordering`: the stretches passed ascend, and the running sum is where the next begins.
+-- Assumes nothing.
 use Rattle.housefile.proofs.Ordering.{Ordering, ordering-none, ordering-span, ordering-more, ordering-found, ordering-place, ordering-all}
 use native.Mathlib.Omega.{arith}
 use denote.Ref.{now}

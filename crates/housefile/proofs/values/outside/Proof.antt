@@ -1,4 +1,5 @@
--- Row 6. Invariant: every target passed is a vertex.
+-- `housefile::values::outside` meets its contract. Row 6. Invariant: every target passed is a vertex.
+-- Assumes nothing.
 use denote.Ref.{now}
 use Rattle.housefile.proofs.ValueTests.{target-outside, target-inside}
 use Rattle.housefile.proofs.Lists.{targets-long}

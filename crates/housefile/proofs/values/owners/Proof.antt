@@ -1,4 +1,5 @@
--- Row 2. Invariant: no owner passed is strange.
+-- `housefile::values::owners` meets its contract. Row 2. Invariant: no owner passed is strange.
+-- Assumes nothing.
 use denote.Ref.{now}
 use Rattle.housefile.proofs.ValueTests.{owner-strange, owner-player, owner-vertex}
 use Rattle.housefile.specs.Filed.{verticesFiled, ownersFiled}

@@ -1,4 +1,5 @@
--- Row 3. Invariant: no priority passed is 255.
+-- `housefile::values::priorities` meets its contract. Row 3. Invariant: no priority passed is 255.
+-- Assumes nothing.
 use denote.Ref.{now}
 use Rattle.housefile.proofs.ValueTests.{priority-top}
 use Rattle.housefile.specs.Filed.{verticesFiled, prioritiesFiled}

@@ -1,4 +1,5 @@
--- Row 5. Invariant: every vertex passed has a successor. A vertex's stretch is as long as its count.
+-- `housefile::values::stuck` meets its contract. Row 5. Invariant: every vertex passed has a successor. A vertex's stretch is as long as its count.
+-- Assumes nothing.
 use Rattle.housefile.proofs.ValueTests.{stuck-here, moving-here}
 use Rattle.housefile.specs.Filed.{verticesFiled, startsFiled, targetsFiled}
 use Rattle.game.specs.Faults.{Fault5}

@@ -1,4 +1,5 @@
--- The sum of the successor counts. Invariant `Total`: the sum of the counts passed.
+-- `housefile::values::total` meets its contract. The sum of the successor counts. Invariant `Total`: the sum of the counts passed.
+-- Assumes nothing.
 use Rattle.housefile.proofs.ValueTests.{Total, total-none, total-more, total-all}
 use Rattle.housefile.specs.Filed.{verticesFiled}
 use native.Mathlib.Omega.{arith}

@@ -1,4 +1,5 @@
--- The highest priority. Invariant `Topping`: the highest of those passed and those to come is the highest of all.
+-- `housefile::write::highest` meets its contract. The highest priority. Invariant `Topping`: the highest of those passed and those to come is the highest of all.
+-- Assumes nothing.
 use Prim.Native.Nat.{ℕ, _-_, _+_, _<_}
 use lib.ListN.{length}
 use Rattle.housefile.proofs.Turning.{Topping, topping-none, topping-higher, topping-lower, topping-all}

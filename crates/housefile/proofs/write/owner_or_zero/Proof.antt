@@ -1,4 +1,5 @@
--- The owner of a vertex, zero past the vertices.
+-- `housefile::write::owner_or_zero` meets its contract. The owner of a vertex, zero past the vertices.
+-- Assumes nothing.
 use Rattle.housefile.proofs.Lists.{owner-past}
 use denote.Ref.{now}
 use native.Mathlib.Omega.{arith}

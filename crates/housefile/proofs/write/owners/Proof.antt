@@ -1,4 +1,5 @@
--- The owners' table. Invariant `Filling`: what is passed holds what is filed.
+-- `housefile::write::owners` meets its contract. The owners' table. Invariant `Filling`: what is passed holds what is filed.
+-- Assumes nothing.
 use Rattle.housefile.proofs.Filling.{Filling, filling-none, filling-more, filling-all}
 use Rattle.housefile.proofs.Lists.{owners-long}
 use Rattle.housefile.specs.Filed.{verticesFiled, ownersFiled}

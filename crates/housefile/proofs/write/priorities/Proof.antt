@@ -1,4 +1,5 @@
--- The priorities' table. Invariant `Filling`, with the highest priority beside it.
+-- `housefile::write::priorities` meets its contract. The priorities' table. Invariant `Filling`, with the highest priority beside it.
+-- Assumes nothing.
 use Rattle.housefile.proofs.Filling.{Filling, filling-none, filling-more, filling-all}
 use Rattle.housefile.proofs.Turning.{turned-long}
 use Rattle.housefile.proofs.Lists.{priorities-long}

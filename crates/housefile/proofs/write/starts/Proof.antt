@@ -1,4 +1,5 @@
--- The starts' table. Invariants `Running`, the sum of the counts passed, and `Filling`.
+-- `housefile::write::starts` meets its contract. The starts' table. Invariants `Running`, the sum of the counts passed, and `Filling`.
+-- Assumes nothing.
 use Rattle.housefile.proofs.Running.{Running, running-none, running-small, running-more, running-start}
 use Rattle.housefile.proofs.Filling.{Filling, filling-none, filling-more, filling-all}
 use Rattle.housefile.proofs.Lists.{starts-long}

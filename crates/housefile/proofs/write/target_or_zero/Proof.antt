@@ -1,4 +1,5 @@
--- The target of an edge, zero past the edges.
+-- `housefile::write::target_or_zero` meets its contract. The target of an edge, zero past the edges.
+-- Assumes nothing.
 use Rattle.housefile.proofs.Lists.{target-past}
 use denote.Ref.{now}
 use native.Mathlib.Omega.{arith}

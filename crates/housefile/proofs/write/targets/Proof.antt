@@ -1,4 +1,5 @@
--- The targets' table. Invariant `Filling`: what is passed holds what is filed.
+-- `housefile::write::targets` meets its contract. The targets' table. Invariant `Filling`: what is passed holds what is filed.
+-- Assumes nothing.
 use Rattle.housefile.proofs.Filling.{Filling, filling-none, filling-more, filling-all}
 use Rattle.housefile.proofs.Lists.{targets-long}
 use Rattle.housefile.specs.Tests.{TargetAt}

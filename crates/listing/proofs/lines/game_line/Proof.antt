@@ -1,4 +1,5 @@
--- The word, then the two fields (Fields).
+-- `listing::lines::game_line` meets its contract. The word, then the two fields (Fields).
+-- Assumes nothing.
 use borrow.Author.Needs.{needs}
 use Rattle.listing.specs.Text.{wordGame}
 use Rattle.listing.proofs.Fields.{worded-first, worded-second, worded-third, worded-all}

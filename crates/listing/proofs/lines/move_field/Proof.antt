@@ -1,4 +1,5 @@
--- A dash for 65,535, and the number otherwise (Decimals).
+-- `listing::lines::move_field` meets its contract. A dash for 65,535, and the number otherwise (Decimals).
+-- Assumes nothing.
 use borrow.Author.Needs.{needs}
 use mathlib.Core.Path.{sym}
 use native.Mathlib.Omega.{arith}

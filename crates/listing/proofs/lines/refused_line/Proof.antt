@@ -1,4 +1,5 @@
--- The word, then the two fields (Fields); the number is the one that the kind has.
+-- `listing::lines::refused_line` meets its contract. The word, then the two fields (Fields); the number is the one that the kind has.
+-- Assumes nothing.
 use borrow.Author.Needs.{needs}
 use Prim.Native.Nat.{ℕ, _<_}
 use mathlib.Core.Path.{sym, ap, subst}

@@ -1,4 +1,5 @@
--- The five fields and the end of the line (Fields).
+-- `listing::lines::vertex_line` meets its contract. The five fields and the end of the line (Fields).
+-- Assumes nothing.
 use borrow.Author.Needs.{needs}
 use native.Mathlib.Omega.{arith}
 use Rattle.listing.specs.Text.{moveField}

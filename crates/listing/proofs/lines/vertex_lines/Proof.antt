@@ -1,4 +1,5 @@
--- Line by line (Lined).
+-- `listing::lines::vertex_lines` meets its contract. Line by line (Lined).
+-- Assumes nothing.
 use borrow.Author.Needs.{needs}
 use Prim.Native.Nat.{_-_}
 use native.Mathlib.Omega.{arith}

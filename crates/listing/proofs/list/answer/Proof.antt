@@ -1,4 +1,5 @@
--- The parts of the tables are a game that the solver does not refuse (Answers).
+-- `listing::list::answer` meets its contract. The parts of the tables are a game that the solver does not refuse (Answers).
+-- Assumes nothing.
 use borrow.Author.Needs.{needs}
 use mathlib.Core.Path.{sym}
 use lib.Seq.{length-take-le}

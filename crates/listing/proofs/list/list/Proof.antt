@@ -1,4 +1,5 @@
--- The file as it was read, and its listing, or the line of its refusal (Filing).
+-- `listing::list::list` meets its contract. The file as it was read, and its listing, or the line of its refusal (Filing).
+-- Assumes nothing.
 use borrow.Author.Needs.{needs}
 use Prim.Native.Nat.{ℕ, _<_}
 use mathlib.Core.Path.{refl}

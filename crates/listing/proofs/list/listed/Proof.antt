@@ -1,4 +1,5 @@
--- The answer, the first line, the lines of the vertices (Whole).
+-- `listing::list::listed` meets its contract. The answer, the first line, the lines of the vertices (Whole).
+-- Assumes nothing.
 use borrow.Author.Needs.{needs}
 use mathlib.Core.Path.{refl}
 use Rattle.listing.proofs.Whole.{solvable, n-low, m-low, game-room, listable, lines-room, answer-listed}

@@ -1,4 +1,5 @@
--- One store, and one place further.
+-- `listing::text::byte` meets its contract. One store, and one place further.
+-- Assumes nothing.
 use borrow.Author.Needs.{needs}
 use mathlib.Core.Path.{refl}
 use native.Mathlib.Omega.{arith}

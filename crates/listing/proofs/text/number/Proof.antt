@@ -1,4 +1,5 @@
--- The library's digits are the number's (Decimals), and the word appends them.
+-- `listing::text::number` meets its contract. The library's digits are the number's (Decimals), and the word appends them.
+-- Assumes nothing.
 use borrow.Author.Needs.{needs}
 use mathlib.Core.Path.{_≡_, sym}
 use lib.ListN.{take}

@@ -1,4 +1,5 @@
--- The word byte by byte (Appending).
+-- `listing::text::word` meets its contract. The word byte by byte (Appending).
+-- Assumes nothing.
 use borrow.Author.Needs.{needs}
 use Prim.Native.Nat.{_-_}
 use mathlib.Core.Path.{refl}

@@ -16,6 +16,13 @@ Inv-loop priorities winners₀ work₀ n v₀ winners work v = Opening prioritie
 abbrev μ-loop : tie.MeasureT-loop
 μ-loop priorities winners₀ work₀ n v₀ winners work v = length priorities - v
 
+-- the turn of the loop in which the work space is written, and the way from there to the start
+abbrev turn-of : tie.After-slice-known3 Inv-loop μ-loop → tie.In-loop Inv-loop μ-loop
+turn-of c = c .before .before .before .before .before .before
+
+abbrev start : tie.In-loop Inv-loop μ-loop → tie.Start Inv-loop μ-loop
+start t = t .before .before .before .before .before
+
 loop-holds : tie.Need-loop-holds Inv-loop μ-loop
 loop-holds c = opening-none
 
@@ -26,22 +33,24 @@ of-priority-requires : tie.Need-of-priority-requires Inv-loop μ-loop
 of-priority-requires c κs = search needs
 
 set-mark-requires : tie.Need-set-mark-requires Inv-loop μ-loop
-set-mark-requires c κs = omega (arith, c .before .before .before .loop-test .taken, c .before .before .before .before .loop .inv .room, c .before .before .before .before .before .before .before .before .pre .winners-long)
+set-mark-requires c κs =
+    let t = c .before .before .before in
+    omega (arith, t .loop-test .taken, t .before .loop .inv .room, start t .pre .winners-long)
 
 mul-work : tie.Need-mul-work Inv-loop μ-loop
-mul-work c = omega (arith, c .before .before .before .before .before .before .loop-test .taken, c .before .before .before .before .before .before .before .before .before .before .before .good, c .before .before .before .before .before .before .before .before .before .before .before .pre .work-long)
+mul-work c = let t = turn-of c in omega (arith, t .loop-test .taken, start t .good, start t .pre .work-long)
 
 slice-write-work : tie.Need-slice-write-work Inv-loop μ-loop
-slice-write-work c = omega (arith, c .before .before .before .before .before .before .loop-test .taken, c .before .before .before .before .before .before .before .loop .inv .long, c .before .before .before .before .before .before .before .before .before .before .before .pre .work-long)
+slice-write-work c = let t = turn-of c in omega (arith, t .loop-test .taken, t .before .loop .inv .long, start t .pre .work-long)
 
 add-work : tie.Need-add-work Inv-loop μ-loop
-add-work c = omega (arith, c .before .before .before .before .before .before .loop-test .taken, c .before .before .before .before .before .before .before .before .before .before .before .good, c .before .before .before .before .before .before .before .before .before .before .before .pre .work-long)
+add-work c = let t = turn-of c in omega (arith, t .loop-test .taken, start t .good, start t .pre .work-long)
 
 mul-work-2 : tie.Need-mul-work-2 Inv-loop μ-loop
-mul-work-2 c = omega (arith, c .before .before .before .before .before .before .loop-test .taken, c .before .before .before .before .before .before .before .before .before .before .before .good, c .before .before .before .before .before .before .before .before .before .before .before .pre .work-long)
+mul-work-2 c = let t = turn-of c in omega (arith, t .loop-test .taken, start t .good, start t .pre .work-long)
 
 slice-write-work-2 : tie.Need-slice-write-work-2 Inv-loop μ-loop
-slice-write-work-2 c = let l : length (c .before .before .before .before .before .before .before .loop .work) ≡ _ = c .before .before .before .before .before .before .before .loop .inv .long in simp length-set (omega (arith, c .before .before .before .before .before .before .loop-test .taken, c .before .before .before .before .before .before .before .loop .inv .long, c .before .before .before .before .before .before .before .before .before .before .before .pre .work-long))
+slice-write-work-2 c = let t = turn-of c in simp length-set (omega (arith, t .loop-test .taken, t .before .loop .inv .long, start t .pre .work-long))
 
 add-v : tie.Need-add-v Inv-loop μ-loop
 add-v c = search needs
@@ -50,7 +59,9 @@ loop-less : tie.Need-loop-less Inv-loop μ-loop
 loop-less c = search needs
 
 loop-again : tie.Need-loop-again Inv-loop μ-loop
-loop-again c = opening-more _ _ _ _ _ _ _ _ (c .before .before .before .before .before .before .before .before .before .before .before .pre) (c .before .before .before .before .before .before .loop-test .taken) (c .before .before .before .before .before .before .before .loop .inv) (c .before .before .before .of-priority .ensures) (c .before .before .set-mark .ensures)
+loop-again c =
+    let t = turn-of c in
+    opening-more _ _ _ _ _ _ _ _ (start t .pre) (t .loop-test .taken) (t .before .loop .inv) (c .before .before .before .of-priority .ensures) (c .before .before .set-mark .ensures)
 
 same-length : tie.Need-same-length Inv-loop μ-loop
 unfolding markRoom

@@ -21,6 +21,10 @@ abbrev μ-loop : tie.MeasureT-loop
 abbrev start : tie.In-loop Inv-loop μ-loop → tie.Start Inv-loop μ-loop
 start c = c .before .before .before .before .before .before .before
 
+-- the turn in which a vertex was opened
+abbrev turn-of : tie.After-open-again Inv-loop μ-loop → tie.In-loop Inv-loop μ-loop
+turn-of c = c .before .before .before .before .before .before .before .before .before .before .before
+
 place : (c : tie.In-loop Inv-loop μ-loop) → c .before .loop .i < start c .args .n
 place c = omega (arith, c .loop-test .taken, tail-bounded (start c .pre .queued))
 
@@ -55,10 +59,14 @@ set-mark-requires : tie.Need-set-mark-requires Inv-loop μ-loop
 set-mark-requires c κs = let t = c .before .before .before .before in omega (arith, vertex t, start t .pre .room, t .before .loop .inv .room)
 
 open-again-requires : tie.Need-open-again-requires Inv-loop μ-loop
-open-again-requires c κs = let t = c .before .before .before .before .before .before .before .before .before .before in reopening-openable (start t .pre) (t .before .loop .inv) (t .loop-test .taken)
+open-again-requires c κs =
+    let t = c .before .before .before .before .before .before .before .before .before .before in
+    reopening-openable (start t .pre) (t .before .loop .inv) (t .loop-test .taken)
 
 cast-least : tie.Need-cast-least Inv-loop μ-loop
-cast-least c = omega (arith, c .before .before .before .before .before .before .before .before .before .before .before .before .before .before .before .shared-slice-known2 .given (getD (c .before .before .before .before .before .before .before .before .before .before .before .before .before .before .before .before .before .before .loop .work) (2 * start (c .before .before .before .before .before .before .before .before .before .before .before .before .before .before .before .before .before) .args .n + c .before .before .before .before .before .before .before .before .before .before .before .before .before .before .before .before .before .before .loop .i) 0))
+cast-least c =
+    let t = turn-of (c .before .before .before .before .before .before) in
+    omega (arith, c .before .before .before .before .before .before .before .before .before .before .before .before .before .before .before .shared-slice-known2 .given (getD (t .before .loop .work) (2 * start t .args .n + t .before .loop .i) 0))
 
 least-requires : tie.Need-least-requires Inv-loop μ-loop
 least-requires c κs = search needs
@@ -70,7 +78,10 @@ loop-less : tie.Need-loop-less Inv-loop μ-loop
 loop-less c = search needs
 
 loop-again : tie.Need-loop-again Inv-loop μ-loop
-loop-again c = let t = c .before .before .before .before .before .before .before .before .before .before .before .before .before .before .before .before .before .before in reopening-more (start t .pre) (t .before .loop .inv) _ (t .loop-test .taken) refl (c .before .before .before .before .before .before .before .before .before .before .before .before .before .before .of-priority .ensures) (c .before .before .before .before .before .before .before .before .before .before .before .before .before .set-mark .ensures) (c .before .before .before .before .before .before .before .open-again .ensures) (c .least .ensures .0) (c .least .ensures .1)
+loop-again c =
+    let a = c .before .before .before .before .before .before .before in
+    let t = turn-of a in
+    reopening-more (start t .pre) (t .before .loop .inv) _ (t .loop-test .taken) refl (c .before .before .before .before .before .before .before .before .before .before .before .before .before .before .of-priority .ensures) (c .before .before .before .before .before .before .before .before .before .before .before .before .before .set-mark .ensures) (a .open-again .ensures) (c .least .ensures .0) (c .least .ensures .1)
 
 same-length : tie.Need-same-length Inv-loop μ-loop
 same-length c = c .before .loop .inv .lines .firsts-long ∙ sym (c .before .before .before .before .before .before .before .pre .lines .firsts-long)

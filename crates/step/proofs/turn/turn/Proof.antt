@@ -23,7 +23,9 @@ shared-slice-read-own : tie.Need-shared-slice-read-own
 shared-slice-read-own c = in-priorities (c .before .before .before .before .before .before .before .before .before .before .before .pre)
 
 cast-own : tie.Need-cast-own
-cast-own c = let p = c .before .before .before .before .before .before .before .before .before .before .before .pre in omega (arith, p .bytes _ (p .least .vertex))
+cast-own c =
+    let p = c .before .before .before .before .before .before .before .before .before .before .before .pre in
+    omega (arith, p .bytes _ (p .least .vertex))
 
 seed-requires : tie.Need-seed-requires
 seed-requires c κs = seedable (c .before .before .before .before .before .before .before .before .before .before .before .before .pre)
@@ -32,16 +34,32 @@ close-requires : tie.Need-close-requires
 close-requires c κs = closable (c .before .before .before .before .before .before .before .before .before .before .before .before .before .before .before .before .before .pre) (c .before .before .before .before .seed .ensures)
 
 reopen-requires : tie.Need-reopen-requires
-reopen-requires c κs = let l = c .before .before .before .before .before .before in let s = at-seed l in reopenable (start s .pre) (s .seed .ensures) (l .close .ensures)
+reopen-requires c κs =
+    let l = c .before .before .before .before .before .before in
+    let s = at-seed l in
+    reopenable (start s .pre) (s .seed .ensures) (l .close .ensures)
 
 clear-requires : tie.Need-clear-requires
-clear-requires c κs = let r = c .before .before .before .before .before .before .before .before .before in let l = at-close r in let s = at-seed l in clearable (start s .pre) (s .seed .ensures) (l .close .ensures) (r .reopen .ensures)
+clear-requires c κs =
+    let r = c .before .before .before .before .before .before .before .before .before in
+    let l = at-close r in
+    let s = at-seed l in
+    clearable (start s .pre) (s .seed .ensures) (l .close .ensures) (r .reopen .ensures)
 
 set-mark-requires : tie.Need-set-mark-requires
-set-mark-requires c κs = let r = at-reopen (c .before .before .before) in let l = at-close r in let s = at-seed l in mark-room (start s .pre) (s .seed .ensures) (l .close .ensures) (r .reopen .ensures)
+set-mark-requires c κs =
+    let r = at-reopen (c .before .before .before) in
+    let l = at-close r in
+    let s = at-seed l in
+    mark-room (start s .pre) (s .seed .ensures) (l .close .ensures) (r .reopen .ensures)
 
 keep-requires : tie.Need-keep-requires
-keep-requires c κs = let d = c .before .before .before .before .before .before .before .before .before in let r = at-reopen d in let l = at-close r in let s = at-seed l in keepable (start s .pre) (s .seed .ensures) (l .close .ensures) (r .reopen .ensures) (d .clear .ensures)
+keep-requires c κs =
+    let d = c .before .before .before .before .before .before .before .before .before in
+    let r = at-reopen d in
+    let l = at-close r in
+    let s = at-seed l in
+    keepable (start s .pre) (s .seed .ensures) (l .close .ensures) (r .reopen .ensures) (d .clear .ensures)
 
 same-length : tie.Need-same-length
 same-length c = search needs
@@ -56,10 +74,23 @@ same-length-4 : tie.Need-same-length-4
 same-length-4 c = search needs
 
 same-length-5 : tie.Need-same-length-5
-same-length-5 c = let k = c .before .before .before .before .before .before in let d = k .before .before .before .before .before .before .before .before .before .before in let r = at-reopen d in let l = at-close r in let s = at-seed l in long-kept (start s .pre) (s .seed .ensures) (l .close .ensures) (r .reopen .ensures) (d .clear .ensures) (k .keep .ensures .1 .0) (k .keep .ensures .1 .1)
+same-length-5 c =
+    let k = c .before .before .before .before .before .before in
+    let d = k .before .before .before .before .before .before .before .before .before .before in
+    let r = at-reopen d in
+    let l = at-close r in
+    let s = at-seed l in
+    long-kept (start s .pre) (s .seed .ensures) (l .close .ensures) (r .reopen .ensures) (d .clear .ensures) (k .keep .ensures .1 .0) (k .keep .ensures .1 .1)
 
 returns : tie.Need-returns
-returns c = let k = c .before .before .before .before .before .before in let m = k .before .before .before .before .before .before in let d = m .before .before .before .before in let r = at-reopen d in let l = at-close r in let s = at-seed l in turned (start s .pre) (s .seed .ensures) (l .close .ensures) (r .reopen .ensures) (d .clear .ensures) (k .keep .ensures .1 .0) (k .keep .ensures .1 .1) (m .set-mark .ensures) (k .keep .ensures .0)
+returns c =
+    let k = c .before .before .before .before .before .before in
+    let m = k .before .before .before .before .before .before in
+    let d = m .before .before .before .before in
+    let r = at-reopen d in
+    let l = at-close r in
+    let s = at-seed l in
+    turned (start s .pre) (s .seed .ensures) (l .close .ensures) (r .reopen .ensures) (d .clear .ensures) (k .keep .ensures .1 .0) (k .keep .ensures .1 .1) (m .set-mark .ensures) (k .keep .ensures .0)
 
 pub turn-spec : {M : Type 1} → statement M
 turn-spec =
