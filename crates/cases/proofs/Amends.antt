@@ -1,15 +1,14 @@
 -- Which vertices an amendment reaches, and how many, by tests that compute.
 use Prim.Native.Nat.{ℕ, zero, suc}
-use mathlib.Core.Path.{_≡_, refl, subst, ap}
 use mathlib.Core.Bool.{Bool, cond, not, _&&_, _||_}
 use mathlib.Core.Logic.{_⊎_, inl, inr, _≢_}
 use lib.Dec.{eqb}
 use Rattle.game.specs.Game.{Game, Edge}
-use Rattle.winning.specs.Walk.{Walk, stay, step}
+use Rattle.winning.specs.Walk.{Walk}
 use Rattle.winning.specs.Verdict.{via, lowest, isAt, isEdge}
 use Rattle.winning.proofs.Reflect.{Tests, holds, fails, tests-map, tests-not, tests-and, tests-or, tests-eq}
 use Rattle.winning.proofs.Edges.{tests-edge}
-use Rattle.winning.proofs.Reachable.{Via, via-tests, via-step, step-via}
+use Rattle.winning.proofs.Reachable.{walk-tests}
 use Rattle.winning.proofs.Search.{tests-some}
 use Rattle.update.specs.Amended.{Differs, owner, priority, successors, Reaches, Number, none, one, skip}
 use Rattle.cases.proofs.Equal.{isSame, tests-same}
@@ -18,16 +17,8 @@ use Rattle.cases.proofs.Equal.{isSame, tests-same}
 abbrev isWalk : Game → ℕ → ℕ → Bool
 isWalk f v u = eqb v u || via (isEdge f) (f .n) v u
 
-walk-via : {f : Game} {v u : ℕ} → Walk (Edge f) v u → (v ≡ u) ⊎ Via (Edge f) (f .n) v u
-walk-via stay = inl refl
-walk-via (step s a) = inr (step-via (λ x y e. e .from) s a)
-
 tests-walk : (f : Game) (v u : ℕ) → Tests (Walk (Edge f) v u) (isWalk f v u)
-tests-walk f v u = tests-map to walk-via (tests-or (tests-eq v u) (via-tests (tests-edge f) (f .n) v u))
-  where
-    to : (v ≡ u) ⊎ Via (Edge f) (f .n) v u → Walk (Edge f) v u
-    to (inl e) = subst (Walk (Edge f) v) e stay
-    to (inr a) = let s = via-step a in step (s .1) (s .2)
+tests-walk f v u = walk-tests (tests-edge f) (f .n) (λ x y e. e .from) v u
 
 module _ (g h : Game) where
   -- whether owner, priority or successors differ
@@ -67,18 +58,10 @@ abbrev pub countOf : (ℕ → Bool) → ℕ → ℕ
 countOf t zero = 0
 countOf t (suc n) = cond (t n) (suc (countOf t n)) (countOf t n)
 
-module _ {P : ℕ → Type 0} where
-  pub number-of : {t : ℕ → Bool} → ((v : ℕ) → Tests (P v) (t v)) → (n : ℕ) → Number P n (countOf t n)
-  number-of r zero = none
-  number-of r (suc n) = next (r n) (number-of r n)
-    where
-      next : {b : Bool} {c : ℕ} → Tests (P n) b → Number P n c → Number P (suc n) (cond b (suc c) c)
-      next (holds p) a = one p a
-      next (fails h) a = skip h a
-
-  pub number-unique : {n c d : ℕ} → Number P n c → Number P n d → c ≡ d
-  number-unique none none = refl
-  number-unique (one p a) (one q b) = ap suc (number-unique a b)
-  number-unique (one p a) (skip h b) = absurd (h p)
-  number-unique (skip h a) (one q b) = absurd (h q)
-  number-unique (skip h a) (skip k b) = number-unique a b
+pub number-of : {P : ℕ → Type 0} {t : ℕ → Bool} → ((v : ℕ) → Tests (P v) (t v)) → (n : ℕ) → Number P n (countOf t n)
+number-of r zero = none
+number-of {P} r (suc n) = next (r n) (number-of r n)
+  where
+    next : {b : Bool} {c : ℕ} → Tests (P n) b → Number P n c → Number P (suc n) (cond b (suc c) c)
+    next (holds p) a = one p a
+    next (fails h) a = skip h a

@@ -17,7 +17,7 @@ use Rattle.game.proofs.Zeros.{zeroed-unique}
 use Rattle.cases.specs.Games.{FourTables, size}
 use Rattle.cases.specs.Table.{checked, judgement, Checking, zeros, workAfter, Only, Holds}
 use Rattle.cases.proofs.Equal.{by-test, tests-itself, isSame, tests-same, isSaid, same-said}
-use Rattle.cases.proofs.Verdicts.{thenSaid, gives-then, gives-past, rowsOf, tablesSaid, tables-give, judged, judged-gives}
+use Rattle.cases.proofs.Verdicts.{thenSaid, gives-then, gives-past, rowsOf, tested, tested-gives, judged, judged-gives}
 
 pub zeros-zeroed : (work : List ℕ) → Zeroed work (zeros work)
 zeros-zeroed work =
@@ -48,7 +48,7 @@ noValues (refused k x) = true
 module _ (g : FourTables) (winners moves : List ℕ) where
   -- what the checker says, computed
   abbrev checkSaid : Said
-  checkSaid = thenSaid (tablesSaid g) (judged g winners moves)
+  checkSaid = thenSaid (tested g) (judged g winners moves)
 
   -- whether it says this
   abbrev pub isChecked : Said → Bool
@@ -63,7 +63,7 @@ module _ (g : FourTables) (winners moves : List ℕ) where
 
     said-gives : length winners ≡ size g → length moves ≡ size g → length work ≡ 4 * size g → Gives rows checkSaid
     said-gives a b c =
-        gives-then (rowsOf g) later (tablesSaid g) (judged g winners moves) (tables-give g)
+        gives-then (rowsOf g) later (tested g) (judged g winners moves) (tested-gives g)
         (gives-past _ _ (judged g winners moves) (lengths-fit (size g) (length winners) (length moves) (length work) a b c) (judged-gives g winners moves))
 
     -- acceptance is all that is promised where no row applies

@@ -13,7 +13,7 @@ use Rattle.solver.specs.Solving.{solveRows}
 use Rattle.cases.specs.Games.{FourTables, size}
 use Rattle.cases.specs.Table.{solved, unsolved, Lent, Fits, outcome, Solving, zeros, Holds}
 use Rattle.cases.proofs.Equal.{both-tests, isSaid, same-said}
-use Rattle.cases.proofs.Verdicts.{Formed, rowsOf, tablesSaid, tables-give}
+use Rattle.cases.proofs.Verdicts.{Formed, rowsOf, tested, tested-gives}
 use Rattle.cases.proofs.Checked.{zeros-zeroed}
 use Rattle.cases.proofs.Answers.{movesAt, move-listed, isAnswer, Answered, answered, onlyMoves, only-answer}
 
@@ -73,7 +73,7 @@ solved-holds g winners moves t lent f =
 
 -- whether the tables are refused so
 abbrev pub isUnsolved : FourTables → (number place : ℕ) → Bool
-isUnsolved g number place = isSaid (tablesSaid g) (refused number place)
+isUnsolved g number place = isSaid (tested g) (refused number place)
 
 pub unsolved-holds : (g : FourTables) (number place : ℕ) → T (isUnsolved g number place) → Holds (unsolved g number place)
 unsolved-holds g k x t lent =
@@ -83,7 +83,7 @@ unsolved-holds g k x t lent =
     }
   where
     f : First (rows g lent) k x
-    f = first-left (rowsOf g) (row8 g lent ∷ []) k x (subst (Gives (rowsOf g)) (same-said (tablesSaid g) (refused k x) t) (tables-give g))
+    f = first-left (rowsOf g) (row8 g lent ∷ []) k x (subst (Gives (rowsOf g)) (same-said (tested g) (refused k x) t) (tested-gives g))
 
     other :
         (said : Said) (winners′ moves′ work′ : List ℕ) → Solving g lent (outcome said winners′ moves′ work′) →

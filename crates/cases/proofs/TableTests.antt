@@ -6,12 +6,13 @@ use mathlib.Core.Logic.{_⊎_, inl, inr, _≢_}
 use mathlib.Core.List.{List, [], _∷_}
 use native.Mathlib.Omega.{arith}
 use lib.Dec.{eqb, leb, ltb}
-use lib.ListN.{length, getD, length-take, length-drop}
+use lib.ListN.{length, getD}
 use Rattle.player.specs.Player.{IsPlayer}
 use Rattle.refusal.specs.Row.{Said, Gives}
 use Rattle.refusal.specs.Found.{Finds}
 use Rattle.game.specs.Tables.{nextOf}
 use Rattle.game.specs.Faults.{Fault1, no-vertex, over-2048, differ, not-n+1, over-16384, Fault2, Fault3, Fault4, first, below, last, Fault5, Fault6, Descent, Fault7, tableRows}
+use Rattle.game.proofs.Starts.{stretch-place}
 use Rattle.winning.specs.Verdict.{Test, lowest, isAt, saidBy}
 use Rattle.winning.proofs.Reflect.{Tests, tests-map, tests-not, tests-and, tests-or, tests-eq, tests-le, tests-lt}
 use Rattle.winning.proofs.Search.{Below, finds-within, tests-some}
@@ -188,13 +189,9 @@ module _ (owners priorities starts targets : List ℕ) where
           let i = t .1 .has in
           record { vertex = t .0; is-vertex = t .1 .below; at = i .0; place = i .1 .has .0; descent = i .1 .has .1 }
 
-      -- a stretch ends where the targets end
-      inside : (v i : ℕ) → i < length (nextOf starts targets v) → getD starts v 0 + i < length targets
-      inside v i l = omega (arith, simp (length-take, length-drop) at l)
-
       from : (x : ℕ) → Fault7 (length owners) starts targets x → Below Wrong beyond x
       from x f =
-          let l = inside (f .vertex) (f .at) (f .descent .within) in
+          let l = stretch-place starts targets (f .vertex) (f .at) (f .descent .within) in
           record {
             below = omega arith;
             has = (f .vertex, record { below = f .is-vertex; has = (f .at, record { below = omega arith; has = (f .place, f .descent) }) });

@@ -2,26 +2,29 @@
 use Prim.Native.Nat.{ℕ, _<_}
 use mathlib.Core.Path.{_≡_, refl, sym, subst, ap, _∙_}
 use mathlib.Core.Bool.{Bool, cond, _&&_, _||_}
-use mathlib.Core.List.{List, [], _∷_, _++_}
+use mathlib.Core.List.{List, [], _∷_}
 use native.Mathlib.Omega.{arith}
 use lib.Dec.{T, eqb}
-use lib.ListN.{length, getD}
-use Rattle.refusal.specs.Row.{Row, Said, success, refused, NoPlace, None, none-append, first-not-none}
+use lib.ListN.{getD}
+use Rattle.refusal.specs.Row.{Said, success, refused, None, first-not-none}
 use Rattle.game.specs.Game.{Listed}
 use Rattle.game.specs.Answer.{markOf, moveOf}
-use Rattle.winning.specs.Answer.{Accepted, answerRows}
+use Rattle.winning.specs.Answer.{Accepted}
 use Rattle.winning.proofs.Reflect.{Tests, holds, fails, tests-and, tests-eq}
 use Rattle.game.proofs.Zeros.{zeroed-unique}
 use Rattle.update.specs.Amended.{Reaches, Number}
-use Rattle.update.specs.Updating.{Fault8, old-winners-long, old-moves-long, winners-long, moves-long, work-long, Fault9, secondRows, updateRows}
+use Rattle.update.specs.Updating.{updateRows}
+use Rattle.update.proofs.Numbers.{number-unique}
+use Rattle.update.proofs.Lengths.{none-of-lent}
+use Rattle.update.proofs.Rows.{none-of-free}
 use Rattle.cases.specs.Games.{FourTables, gameIn, size}
 use Rattle.cases.specs.Table.{updated, Lent, Fits, outcome, inputOf, Updating, zeros, Holds}
 use Rattle.cases.proofs.Equal.{by-test, tests-itself}
 use Rattle.cases.proofs.Choices.{everyBelow, at-below}
-use Rattle.cases.proofs.Verdicts.{Formed, rowsOf}
+use Rattle.cases.proofs.Verdicts.{Formed}
 use Rattle.cases.proofs.Checked.{zeros-zeroed}
 use Rattle.cases.proofs.Answers.{listed-one, movesAt, move-listed, isAnswer, Answered, answered, onlyMoves, only-answer}
-use Rattle.cases.proofs.Amends.{isReaching, tests-reaches, countOf, number-of, number-unique}
+use Rattle.cases.proofs.Amends.{isReaching, tests-reaches, countOf, number-of}
 
 module _ (g h : FourTables) (old-winners old-moves : List ℕ) where
   -- the amendment reaches v
@@ -34,27 +37,27 @@ module _ (g h : FourTables) (old-winners old-moves : List ℕ) where
   tests-redone : (v : ℕ) → Tests (Redone v) (isRedone v)
   tests-redone = tests-reaches (gameIn g) (gameIn h)
 
-  module _ (lent : Lent) (a : Answered g old-winners old-moves) (f : Fits (size g) lent) where
-    no-fault8 : NoPlace (Fault8 (size g) (length old-winners) (length old-moves) (length (lent .winners)) (length (lent .moves)) (length (lent .work)))
-    no-fault8 x (old-winners-long _ n) = n (a .winners-long)
-    no-fault8 x (old-moves-long _ n) = n (a .moves-long)
-    no-fault8 x (winners-long _ n) = n (f .winners-long)
-    no-fault8 x (moves-long _ n) = n (f .moves-long)
-    no-fault8 x (work-long _ n) = n (f .work-long)
-
-    -- the rows after those of the tables
-    abbrev later : List Row
-    later =
-        record { number = 9; applies = Fault9 (size g) (size h) } ∷
-        record { number = 8; applies = Fault8 (size g) (length old-winners) (length old-moves) (length (lent .winners)) (length (lent .moves)) (length (lent .work)) } ∷
-        answerRows (gameIn g) (markOf old-winners) (moveOf old-moves)
-
-    -- none applies to two well-formed games of one size, a right answer to the first, and buffers that fit
-    no-row : Formed h → size g ≡ size h → None (updateRows (inputOf g h old-winners old-moves lent))
-    no-row w e =
-        none-append (rowsOf g ++ secondRows (rowsOf h)) later
-        (none-append (rowsOf g) (secondRows (rowsOf h)) (a .formed .none) (w .none))
-        ((λ x d. d .differ e), (no-fault8, a .accepted))
+  -- no row applies to two well-formed games of one size, a right answer to the first, and buffers that fit
+  no-row :
+      (lent : Lent) → Answered g old-winners old-moves → Fits (size g) lent → Formed h → size g ≡ size h →
+      None (updateRows (inputOf g h old-winners old-moves lent))
+  no-row lent a f w e =
+      none-of-free (inputOf g h old-winners old-moves lent)
+      (record {
+        first = a .formed .none;
+        second = w .none;
+        size = e;
+        lent =
+            none-of-lent _ _ _ _ _ _
+            (record {
+              old-winners-are = a .winners-long;
+              old-moves-are = a .moves-long;
+              winners-are = f .winners-long;
+              moves-are = f .moves-long;
+              work-are = f .work-long;
+            });
+        accepted = a .accepted;
+      })
 
   module _ (winners moves : List ℕ) where
     -- whether v's line is the old one

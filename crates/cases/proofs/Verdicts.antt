@@ -60,16 +60,16 @@ module _ (g : FourTables) where
   abbrev pub rowsOf : List Row
   rowsOf = tableRows (g .owners) (g .priorities) (g .starts) (g .targets)
 
-  -- the verdict on the tables
-  abbrev pub tablesSaid : Said
-  tablesSaid = tableVerdict (g .owners) (g .priorities) (g .starts) (g .targets)
+  -- what the test of the tables says
+  abbrev pub tested : Said
+  tested = tableVerdict (g .owners) (g .priorities) (g .starts) (g .targets)
 
-  pub tables-give : Gives rowsOf tablesSaid
-  tables-give = table-gives (g .owners) (g .priorities) (g .starts) (g .targets)
+  pub tested-gives : Gives rowsOf tested
+  tested-gives = table-gives (g .owners) (g .priorities) (g .starts) (g .targets)
 
   -- whether the tables are well formed
   abbrev pub isWellFormed : Bool
-  isWellFormed = areBytes (g .priorities) && isSuccess tablesSaid
+  isWellFormed = areBytes (g .priorities) && isSuccess tested
 
   pub record Formed : Type 0 where
     pub well-formed : WellFormed (g .owners) (g .priorities) (g .starts) (g .targets)
@@ -77,10 +77,10 @@ module _ (g : FourTables) where
 
   pub formed : T isWellFormed → Formed
   formed t =
-      let p = by-test (tests-and (tests-bytes (g .priorities)) (tests-none rowsOf tablesSaid tables-give)) t in
+      let p = by-test (tests-and (tests-bytes (g .priorities)) (tests-none rowsOf tested tested-gives)) t in
       record { well-formed = well-formed (g .owners) (g .priorities) (g .starts) (g .targets) (p .0) (p .1); none = p .1 }
 
-  -- the verdict on an answer to the game
+  -- what the checker's rows say of an answer to the game
   abbrev pub judged : (winners moves : List ℕ) → Said
   judged winners moves = verdictOf (gameIn g) (λ v. getD winners v 0) (λ v. getD moves v 0)
 

@@ -5,16 +5,18 @@ use lib.ListN.{length}
 use Rattle.game.specs.Game.{Game}
 use Rattle.game.specs.Tables.{gameOf}
 
+-- the four tables of a game
 pub record FourTables : Type 0 where
   pub owners : List ℕ
   pub priorities : List ℕ
   pub starts : List ℕ
   pub targets : List ℕ
 
--- the game that they say, and its number of vertices
+-- the game that they say
 abbrev pub gameIn : FourTables → Game
 gameIn t = gameOf (t .owners) (t .priorities) (t .starts) (t .targets)
 
+-- its number of vertices
 abbrev pub size : FourTables → ℕ
 size t = length (t .owners)
 

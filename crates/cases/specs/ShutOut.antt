@@ -13,10 +13,12 @@ use Rattle.cases.specs.Table.{winnersA, movesA, Lent, Fits, outcome, Sol
 abbrev pub ShutOut : {X : Type 0} (P Q : X → Type 0) → Type 0
 ShutOut {X} P Q = (x : X) → P x → Q x → ⊥
 
+-- a refusal, whatever its number and place
 abbrev pub IsRefusal : Said → Type 0
 IsRefusal (success values) = ⊥
 IsRefusal (refused number place) = Unit {0}
 
+-- a success, whatever it hands back
 abbrev pub IsSuccess : Said → Type 0
 IsSuccess (success values) = Unit {0}
 IsSuccess (refused number place) = ⊥
@@ -29,20 +31,23 @@ withPriorities priorities g = record { owners = g .owners; priorities = prioriti
 abbrev pub A2 : FourTables
 A2 = withPriorities (0 ∷ 2 ∷ 2 ∷ 3 ∷ []) A
 
--- 0: 0, 0, {1}; 1: 0, 0, {2}; 2: 0, 0, {2}; and with priority 1 at 2, which 0 reaches in two steps
+-- 0: 0, 0, {1}; 1: 0, 0, {2}; 2: 0, 0, {2}
 abbrev pub chain : FourTables
 chain = record { owners = 0 ∷ 0 ∷ 0 ∷ []; priorities = 0 ∷ 0 ∷ 0 ∷ []; starts = 0 ∷ 1 ∷ 2 ∷ 3 ∷ []; targets = 1 ∷ 2 ∷ 2 ∷ [] }
 
+-- the same with priority 1 at 2, which 0 reaches in two steps
 abbrev pub chain1 : FourTables
 chain1 = withPriorities (0 ∷ 0 ∷ 1 ∷ []) chain
 
--- 0: 0, 0, {0, 1}; 1: 0, 0, {1}; 2: 0, 0, {2}; and with priority 1 at 2, which 0 does not reach: both moves at 0 are right in both
+-- 0: 0, 0, {0, 1}; 1: 0, 0, {1}; 2: 0, 0, {2}
 abbrev pub free : FourTables
 free = record { owners = 0 ∷ 0 ∷ 0 ∷ []; priorities = 0 ∷ 0 ∷ 0 ∷ []; starts = 0 ∷ 2 ∷ 3 ∷ 4 ∷ []; targets = 0 ∷ 1 ∷ 1 ∷ 2 ∷ [] }
 
+-- the same with priority 1 at 2, which 0 does not reach: both moves at 0 are right in both
 abbrev pub free1 : FourTables
 free1 = withPriorities (0 ∷ 0 ∷ 1 ∷ []) free
 
+-- each wrong program, shut out
 pub record WrongPrograms : Type 0 where
   -- "a solver that always refuses", whatever the number and place: A
   pub always-refuses : (lent : Lent) → Fits 4 lent → ShutOut (Solving A lent) (λ o. IsRefusal (o .said))

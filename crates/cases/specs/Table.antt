@@ -27,19 +27,23 @@ pub data Case : Type 0 where
 abbrev none : ℕ
 none = noMove
 
--- P1's answer to A and P2's to B
+-- P1's answer to A: the winners
 abbrev pub winnersA : List ℕ
 winnersA = 0 ∷ 0 ∷ 0 ∷ 1 ∷ []
 
+-- and the moves
 abbrev pub movesA : List ℕ
 movesA = 2 ∷ none ∷ 0 ∷ 3 ∷ []
 
+-- P2's answer to B: the winners
 abbrev pub winnersB : List ℕ
 winnersB = 1 ∷ 1 ∷ 1 ∷ 1 ∷ []
 
+-- and the moves
 abbrev pub movesB : List ℕ
 movesB = 1 ∷ 0 ∷ none ∷ 3 ∷ []
 
+-- the table
 abbrev pub table : List Case
 table =
     -- P1. "A: winners 0 0 0 1, moves 2, none, 0, 3."
@@ -88,6 +92,7 @@ pub record Outcome : Type 0 where
   pub moves : List ℕ
   pub work : List ℕ
 
+-- such an outcome, in this order
 abbrev pub outcome : Said → (winners moves work : List ℕ) → Outcome
 outcome said winners moves work = record { said = said; winners = winners; moves = moves; work = work }
 
@@ -96,6 +101,7 @@ pub record Judgement : Type 0 where
   pub said : Said
   pub work : List ℕ
 
+-- such a judgement, in this order
 abbrev pub judgement : Said → (work : List ℕ) → Judgement
 judgement said work = record { said = said; work = work }
 
@@ -118,17 +124,18 @@ inputOf g h winners moves lent =
       work = lent .work;
     }
 
--- the promises of the entry points
-
+-- the promise of `solve` on this game and what is lent
 abbrev pub Solving : FourTables → Lent → Outcome → Type 0
 Solving g lent o =
     Solves (g .owners) (g .priorities) (g .starts) (g .targets) (lent .winners) (lent .moves) (lent .work)
     (o .winners) (o .moves) (o .work) (o .said)
 
+-- the promise of `check` on this game and answer
 abbrev pub Checking : FourTables → (winners moves work : List ℕ) → Judgement → Type 0
 Checking g winners moves work j =
     Checks (g .owners) (g .priorities) (g .starts) (g .targets) winners moves work (j .work) (j .said)
 
+-- the promise of `update` on these games and the answer to the first
 abbrev pub Updating : (first second : FourTables) (winners moves : List ℕ) → Lent → Outcome → Type 0
 Updating g h winners moves lent o = Updates (inputOf g h winners moves lent) (o .winners) (o .moves) (o .work) (o .said)
 

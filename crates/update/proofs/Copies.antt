@@ -4,10 +4,9 @@ use mathlib.Core.Path.{_≡_, _∙_}
 use mathlib.Core.List.{List}
 use native.Mathlib.Nat.{not-suc-le-zero}
 use native.Mathlib.Omega.{arith}
-use borrow.Author.Count.{below-more}
 use lib.ListN.{length, getD, set}
-use lib.Seq.{getD-set-same, getD-set-other}
 use Rattle.reach.specs.Work.{section}
+use Rattle.reach.proofs.Stores.{at-set}
 use Rattle.reach.proofs.Sections.{section-read}
 use Rattle.update.specs.Marking.{Copied, Flags}
 
@@ -21,12 +20,7 @@ module _ (n : ℕ) (work : List ℕ) (long : length work ≡ 4 * n) (v : ℕ) (b
 
   pub copied-more : {marks : List ℕ} → v < length marks → Copied n work marks v → Copied n work (set marks v (getD work (n + v) 0)) (v + 1)
   copied-more {marks} l c =
-      record {
-        same =
-            below-more (λ u. getD (set marks v (getD work (n + v) 0)) u 0 ≡ getD (section 1 n work) u 0) v
-            (λ u k. getD-set-other marks v u (getD work (n + v) 0) 0 (omega arith) ∙ c .same u k)
-            (getD-set-same marks v (getD work (n + v) 0) 0 l ∙ mark-read);
-      }
+      record { same = λ u k. at-set (λ j x. x ≡ getD (section 1 n work) j 0) marks v _ l mark-read u (λ ne. c .same u (omega arith)) }
 
 pub copied-all : {n : ℕ} {work marks : List ℕ} {v : ℕ} → n ≤ v → Copied n work marks v → Copied n work marks n
 copied-all l c = record { same = λ u k. c .same u (omega arith) }

@@ -25,7 +25,7 @@ unmarked-at (x ∷ marks) zero l = refl
 unmarked-at (x ∷ marks) (suc v) l = unmarked-at marks v (le-of-suc-le-suc l)
 
 module _
-    (owners priorities starts targets old-winners old-moves marks : List ℕ)
+    {owners priorities starts targets old-winners old-moves marks : List ℕ}
     (k : Kept owners priorities starts targets old-winners old-moves marks)
     {winners moves work : List ℕ}
     (p : Prepared (length owners) priorities old-winners old-moves marks winners moves work (length owners))

@@ -6,19 +6,20 @@ use native.Mathlib.Omega.{arith}
 use lib.ListN.{length, getD}
 use Rattle.game.specs.Game.{Game, Edge}
 use Rattle.game.specs.Tables.{gameOf}
-use Rattle.winning.specs.Walk.{Walk, stay, step, map-walk}
+use Rattle.winning.specs.Walk.{Walk, map-walk, follow-back}
 use Rattle.reach.specs.Work.{section}
 use Rattle.reach.specs.Lists.{Filled}
 use Rattle.reach.specs.Closure.{Allowed}
 use Rattle.reach.specs.Queue.{ClosableIn, ClosedIn}
+use Rattle.reach.proofs.Stores.{filled-zeroed}
 use Rattle.reach.proofs.Sections.{section-long, section-filled}
 use Rattle.update.specs.Amended.{Differs, Number}
-use Rattle.update.specs.Marking.{Flags, Seeding, Copyable, Copied, Amended, Markable, Marked}
+use Rattle.update.specs.Marking.{Flags, Seeding, Copyable, Copied, Reached, Markable, Marked}
 use Rattle.update.proofs.Numbers.{number-of}
 use Rattle.update.proofs.Copies.{copied-flags}
 
 module _
-    (owners priorities starts targets owners2 priorities2 starts2 targets2 heads nexts sources marks choice work : List ℕ)
+    {owners priorities starts targets owners2 priorities2 starts2 targets2 heads nexts sources marks choice work : List ℕ}
     (m : Markable owners priorities starts targets owners2 priorities2 starts2 targets2 heads nexts sources marks choice work)
   where
     abbrev n : ℕ
@@ -66,11 +67,11 @@ module _
 
       -- closed : the work space after the closure
       module _ {closed : List ℕ} {r : ℕ} (q : ClosedIn n targets2 sources choice 0 seeded closed r) where
+        -- a mark at the end of a path is one at its start
         back : {v u : ℕ} → Walk (Edge h) v u → getD (section 1 n closed) u 0 ≡ 1 → getD (section 1 n closed) v 0 ≡ 1
-        back stay e = e
-        back (step {v} {w} s a) e = q .closed .closed .closed v w (allowed s) (back a e)
+        back a e = follow-back (λ (v : ℕ). getD (section 1 n closed) v 0 ≡ 1) (λ v w s. q .closed .closed .closed v w (allowed s)) e a
 
-        pub reached : Flags (Amended owners priorities starts targets owners2 priorities2 starts2 targets2) n (section 1 n closed)
+        pub reached : Flags (Reached owners priorities starts targets owners2 priorities2 starts2 targets2) n (section 1 n closed)
         reached =
             record {
               flag = q .closed .queued .flag;
@@ -98,5 +99,5 @@ module _
             record {
               flags = copied-flags c reached;
               number = subst (Number _ n) (sym (q .closed .queued .counted)) (number-of _ n (section 1 n closed) reached);
-              zeroed = record { long = e ∙ q .beside .long ∙ s .beside .long; zero = f .all };
+              zeroed = filled-zeroed (e ∙ q .beside .long ∙ s .beside .long) f;
             }

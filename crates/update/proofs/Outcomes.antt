@@ -11,6 +11,7 @@ use Rattle.game.specs.declared.tables.Tables.the-variants as tables
 use Rattle.game.specs.Tables.{WellFormed}
 use Rattle.game.specs.Answer.{tablesSaid}
 use Rattle.game.proofs.Stores.{room-is}
+use Rattle.game.proofs.Zeros.{zeroed-more}
 use Rattle.game.proofs.WellFormed.{well-formed}
 use Rattle.checker.specs.declared.Verdict.{Verdict}
 use Rattle.checker.specs.declared.Verdict.the-variants as verdicts
@@ -83,5 +84,5 @@ module _ (i : Input) where
             accepted = r .accepted;
             kept-mark = r .kept-mark;
             kept-move = r .kept-move;
-            zeroed = record { long = r .zeroed .long ∙ j .zeroed .long; zero = r .zeroed .zero };
+            zeroed = zeroed-more (j .zeroed) (r .zeroed);
           }

@@ -6,16 +6,16 @@ use native.Mathlib.Nat.{not-suc-le-zero}
 use native.Mathlib.Omega.{arith}
 use borrow.Author.Count.{below-more}
 use lib.ListN.{getD, set}
-use lib.Seq.{getD-set-same, getD-set-other}
 use Rattle.player.specs.Player.{parityOf}
 use Rattle.game.specs.Answer.{markOf, moveOf, MarkSet, MoveSet}
 use Rattle.winning.specs.Answer.{noMove}
 use Rattle.reach.specs.Work.{section}
 use Rattle.reach.specs.Lists.{Filled}
+use Rattle.reach.proofs.Stores.{at-set}
 use Rattle.reach.proofs.Sections.{section-long, section-filled, Stored, stored}
 use Rattle.update.specs.Deciding.{Chosen, Preparable, Prepared}
 
-module _ (n : ℕ) (priorities old-winners old-moves marks : List ℕ) where
+module _ {n : ℕ} {priorities old-winners old-moves marks : List ℕ} where
   pub prepared-none : {winners moves work : List ℕ} → Preparable n priorities old-winners old-moves marks winners moves work → Prepared n priorities old-winners old-moves marks winners moves work 0
   prepared-none {winners} {moves} {work} p =
       record {
@@ -45,9 +45,9 @@ module _ (n : ℕ) (priorities old-winners old-moves marks : List ℕ) where
             (λ u k. subst (Chosen (getD marks u 0) (moveOf old-moves u) noMove) (sym (sm .other u (omega arith))) (d .move u k))
             (subst (Chosen (getD marks v 0) (moveOf old-moves v) noMove) (sym (sm .here)) cm);
         flag =
-            below-more (λ u. getD (section 0 n (set work v x)) u 0 ≡ getD marks u 0) v
-            (λ u k. at u ∙ getD-set-other (section 0 n work) v u x 0 (omega arith) ∙ d .flag u k)
-            (at v ∙ getD-set-same (section 0 n work) v x 0 (omega (arith, section-long n work (d .work-long) 0 (omega arith))) ∙ e);
+            λ u k.
+            ap (λ (c : List ℕ). getD c u 0) (s .here) ∙
+            at-set (λ j y. y ≡ getD marks j 0) (section 0 n work) v x (omega (arith, section-long n work (d .work-long) 0 (omega arith))) e u (λ ne. d .flag u (omega arith));
         unmarked = subst (λ (s : List ℕ). Filled s 0) (sym (s .other 1 (omega arith) (omega arith))) (d .unmarked);
         winners-room = sp .room ∙ d .winners-room;
         moves-long = sm .long ∙ d .moves-long;
@@ -56,9 +56,6 @@ module _ (n : ℕ) (priorities old-winners old-moves marks : List ℕ) where
     where
       s : Stored n 0 v x work (set work v x)
       s = stored 0 v (d .work-long) (omega arith) (omega arith) l
-
-      at : (u : ℕ) → getD (section 0 n (set work v x)) u 0 ≡ getD (set (section 0 n work) v x) u 0
-      at u = ap (λ (c : List ℕ). getD c u 0) (s .here)
 
   pub prepared-all : {winners moves work : List ℕ} {v : ℕ} → n ≤ v → Prepared n priorities old-winners old-moves marks winners moves work v → Prepared n priorities old-winners old-moves marks winners moves work n
   prepared-all l d =

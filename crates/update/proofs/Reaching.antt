@@ -1,11 +1,11 @@
 -- Both games yield the same set of reaching vertices: up to the first differing vertex a path of the one is a path of the other.
 use Prim.Native.Nat.{ℕ, _<_}
-use mathlib.Core.Path.{_≡_, refl, sym, subst}
+use mathlib.Core.Path.{_≡_, refl, sym, subst, _∙_}
 use mathlib.Core.Logic.{_↔_}
-use mathlib.Core.List.{List}
-use Rattle.game.specs.Game.{Game, Listed, Edge}
+use Rattle.game.specs.Game.{Game, Edge}
 use Rattle.winning.specs.Walk.{Walk, stay, step}
 use Rattle.justification.specs.Start.{Agree, Closed}
+use Rattle.justification.proofs.Started.{same-edge}
 use Rattle.update.specs.Amended.{Differs, Reaches, Number}
 use Rattle.update.proofs.Differing.{decide-differs, agree-of}
 use Rattle.update.proofs.Numbers.{number-map}
@@ -20,12 +20,7 @@ reaches-on e r = record { to = r .to; vertex = r .vertex; differs = r .differs; 
 -- two games of as many vertices as g that have the same successors where g and h agree
 module _ (f e g h : Game) (f-size : f .n ≡ g .n) (e-size : e .n ≡ g .n) (same : (v : ℕ) → ¬ Differs g h v → f .next v ≡ e .next v) where
   over : {v w : ℕ} → ¬ Differs g h v → Edge f v w → Edge e v w
-  over {v} {w} d s =
-      record {
-        from = subst (λ (k : ℕ). v < k) (sym e-size) (subst (λ (k : ℕ). v < k) f-size (s .from));
-        to = subst (λ (k : ℕ). w < k) (sym e-size) (subst (λ (k : ℕ). w < k) f-size (s .to));
-        listed = subst (λ (l : List ℕ). Listed w l) (same v d) (s .listed);
-      }
+  over {v} d s = same-edge (f-size ∙ sym e-size) (same v d) s
 
   pub reaches-over : {v : ℕ} → Reaches f g h v → Reaches e g h v
   reaches-over r = along (r .path)

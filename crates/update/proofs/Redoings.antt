@@ -5,14 +5,15 @@ use mathlib.Core.List.{List}
 use native.Mathlib.Decide.{ℕ-discrete}
 use native.Mathlib.Omega.{arith}
 use lib.ListN.{length, getD}
+use Rattle.game.proofs.Zeros.{zeroed-more}
 use Rattle.reach.specs.Lists.{nil, Filled}
 use Rattle.reach.specs.Build.{Buildable, Built}
 use Rattle.reach.proofs.Tables.{buildable}
 use Rattle.update.specs.Amended.{Number}
 use Rattle.update.specs.Marking.{Markable, Marked}
 use Rattle.update.specs.Deciding.{Kept, Decidable, DecidedAnew}
-use Rattle.update.specs.Updating.{Input, firstGame, secondGame}
-use Rattle.update.specs.Redoing.{Redoable, Reached, RedoneTo}
+use Rattle.update.specs.Updating.{Input, firstGame, secondGame, Redone}
+use Rattle.update.specs.Redoing.{Redoable, RedoneTo}
 use Rattle.update.proofs.Reaching.{kept-agree, kept-closed}
 
 module _ (i : Input) (a : Redoable i) where
@@ -37,10 +38,10 @@ module _ (i : Input) (a : Redoable i) where
 
     -- what is reached is marked
     module _ {marks work : List ℕ} {count : ℕ} (m : Marked (i .owners) (i .priorities) (i .starts) (i .targets) (i .owners2) (i .priorities2) (i .starts2) (i .targets2) (i .work) marks work count) where
-      unreached : (v : ℕ) → v < length (i .owners2) → getD marks v 0 ≡ 0 → ¬ Reached i v
+      unreached : (v : ℕ) → v < length (i .owners2) → getD marks v 0 ≡ 0 → ¬ Redone i v
       unreached v l e r = let one = m .flags .marked v l r in omega arith
 
-      unmarked : (v : ℕ) → v < length (i .owners2) → ¬ Reached i v → getD marks v 0 ≡ 0
+      unmarked : (v : ℕ) → v < length (i .owners2) → ¬ Redone i v → getD marks v 0 ≡ 0
       unmarked v l h =
           let flag = m .flags .flag v l in
           elim (ℕ-discrete (getD marks v 0) 1) [ yes e ↦ absurd (h (m .flags .holds v l e)) | no ne ↦ omega arith ]
@@ -78,11 +79,11 @@ module _ (i : Input) (a : Redoable i) where
       pub redone : {winners′ moves′ work′ : List ℕ} → DecidedAnew (i .owners2) (i .priorities2) (i .starts2) (i .targets2) (i .old-winners) (i .old-moves) marks (i .winners) choice work winners′ moves′ work′ → RedoneTo i winners′ moves′ work′ count
       redone d =
           record {
-            number = subst (λ (n : ℕ). Number (Reached i) n count) (sym size) (m .number);
+            number = subst (λ (n : ℕ). Number (Redone i) n count) (sym size) (m .number);
             winners-long = d .winners-long;
             moves-long = d .moves-long ∙ long;
             accepted = d .accepted;
             kept-mark = λ v l h. let k = subst (λ (n : ℕ). v < n) size l in d .kept-mark v k (unmarked v k h);
             kept-move = λ v l h. let k = subst (λ (n : ℕ). v < n) size l in d .kept-move v k (unmarked v k h);
-            zeroed = record { long = d .zeroed .long ∙ m .zeroed .long; zero = d .zeroed .zero };
+            zeroed = zeroed-more (m .zeroed) (d .zeroed);
           }

@@ -11,18 +11,16 @@ use Rattle.refusal.specs.declared.Refusal.{Refusal}
 use Rattle.refusal.specs.declared.Found.{Found}
 use Rattle.refusal.specs.declared.Found.the-variants.{At, Nowhere}
 use Rattle.refusal.specs.Number.{numberOf}
-use Rattle.refusal.specs.Row.{Row, None, First, Gives, first-number}
+use Rattle.refusal.specs.Row.{None, First, Gives, first-number}
 use Rattle.refusal.specs.Found.{Finds, found-at, found-nowhere}
 use Rattle.game.specs.declared.tables.Tables.{Tables}
 use Rattle.game.specs.declared.tables.Tables.the-variants.{Refused}
 use Rattle.game.specs.Answer.{tablesSaid}
 use Rattle.game.specs.Buffers.{Zeroed}
+use Rattle.game.proofs.Said.{tables-refused}
 use Rattle.update.specs.Updating.{Input, updateRows, Refuses}
 use Rattle.update.specs.Refusing.{Passes, Fails, TestedBy}
 use Rattle.update.proofs.Rows.{rows1, rows2, Short, judged, first-1, first-2, first-9, first-8, first-judged}
-
-first-of : (rows : List Row) {t : Tables} {r : Refusal} → t ≡ Refused r → Gives rows (tablesSaid t) → First rows (numberOf (r .kind)) (r .place)
-first-of rows e g = subst (λ (t : Tables). Gives rows (tablesSaid t)) e g
 
 module _ (i : Input) where
   says : {t : Tables} {k : Kind} {x : ℕ} → t ≡ Refused (record { kind = k; place = x }) → Fails i (numberOf k) x → TestedBy i (tablesSaid t)
@@ -31,14 +29,14 @@ module _ (i : Input) where
   -- 1 to 7 of the first game
   pub fails-first : {t : Tables} {r : Refusal} → t ≡ Refused r → Gives (rows1 i) (tablesSaid t) → Fails i (numberOf (r .kind)) (r .place)
   fails-first {t} {r} e g =
-      let f = first-of (rows1 i) e g in
+      let f = tables-refused (rows1 i) e g in
       let low : numberOf (r .kind) < 8 = first-number (λ (m : ℕ). m < 8) (rows1 i) (numberOf (r .kind)) (r .place) (omega arith) f in
       record { first = first-1 i (numberOf (r .kind)) (r .place) f; unjudged = λ a b. omega arith }
 
   -- 21 to 27: the second game's fault, with 20 more
   pub fails-second : {t u : Tables} {r : Refusal} {k : Kind} → None (rows1 i) → t ≡ Refused r → Gives (rows2 i) (tablesSaid t) → (numberOf (r .kind) < 8 → numberOf k ≡ 20 + numberOf (r .kind)) → u ≡ Refused (record { kind = k; place = r .place }) → TestedBy i (tablesSaid u)
   fails-second {t} {u} {r} {k} none e g more given =
-      let f = first-of (rows2 i) e g in
+      let f = tables-refused (rows2 i) e g in
       let low : numberOf (r .kind) < 8 = first-number (λ (m : ℕ). m < 8) (rows2 i) (numberOf (r .kind)) (r .place) (omega arith) f in
       let high : numberOf k ≡ 20 + numberOf (r .kind) = more low in
       says given (record { first = subst (λ (m : ℕ). First (updateRows i) m (r .place)) (sym high) (first-2 i (numberOf (r .kind)) (r .place) none f); unjudged = λ a b. omega arith })

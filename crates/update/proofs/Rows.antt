@@ -11,7 +11,7 @@ use Rattle.game.specs.Faults.{tableRows}
 use Rattle.game.specs.Answer.{markOf, moveOf}
 use Rattle.winning.specs.Answer.{answerRows}
 use Rattle.update.specs.Updating.{Input, Fault8, Fault9, firstGame, secondRows, updateRows}
-use Rattle.update.proofs.SecondRows.{none-second, second-none, first-second}
+use Rattle.update.proofs.SecondRows.{first-second}
 
 module _ (i : Input) where
   abbrev pub rows1 : List Row
@@ -48,7 +48,7 @@ module _ (i : Input) where
   no9 e x f = f .differ e
 
   pub none-of-free : Free → None (updateRows i)
-  none-of-free f = none-append rows1 amended (f .first) (none-append (secondRows rows2) sized (none-second rows2 (f .second)) (no9 (f .size), (f .lent, f .accepted)))
+  none-of-free f = none-append rows1 amended (f .first) (none-append (secondRows rows2) sized (f .second) (no9 (f .size), (f .lent, f .accepted)))
 
   pub free-of-none : None (updateRows i) → Free
   free-of-none none =
@@ -56,7 +56,7 @@ module _ (i : Input) where
       let last = none-right (secondRows rows2) sized later in
       record {
         first = none-left rows1 amended none;
-        second = second-none rows2 (none-left (secondRows rows2) sized later);
+        second = none-left (secondRows rows2) sized later;
         size = Dec·not-not (ℕ-discrete (length (i .owners)) (length (i .owners2))) .0 (λ ne. last .0 0 (record { place = refl; differ = ne }));
         lent = last .1 .0;
         accepted = last .1 .1;
@@ -71,7 +71,7 @@ module _ (i : Input) where
   first-2 k x a f = first-right rows1 amended (20 + k) x a (first-left (secondRows rows2) sized (20 + k) x (first-second rows2 k x f))
 
   later : (k x : ℕ) → None rows1 → None rows2 → First sized k x → First (updateRows i) k x
-  later k x a b f = first-right rows1 amended k x a (first-right (secondRows rows2) sized k x (none-second rows2 b) f)
+  later k x a b f = first-right rows1 amended k x a (first-right (secondRows rows2) sized k x b f)
 
   pub first-9 : None rows1 → None rows2 → length (i .owners) ≢ length (i .owners2) → First (updateRows i) 9 0
   first-9 a b ne = later 9 0 a b (inl (refl, record { holds = record { place = refl; differ = ne }; lower = λ y l f. not-suc-le-zero l }))

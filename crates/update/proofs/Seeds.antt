@@ -21,7 +21,7 @@ flag-within {n} flags u long e = elim (decLt u n) [ yes l ↦ l | no h ↦ absur
     past : length flags ≤ u → ⊥
     past l = let z : getD flags u 0 ≡ 0 = List·getD-eq-default flags 0 l in omega arith
 
-module _ (P : ℕ → Type 0) (n : ℕ) (before : List ℕ) (long : length before ≡ 4 * n) where
+module _ {P : ℕ → Type 0} {n : ℕ} {before : List ℕ} (long : length before ≡ 4 * n) where
   pub seeding-none : Filled before 0 → Seeding P n before before 0 0
   seeding-none blank =
       record {

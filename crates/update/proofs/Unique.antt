@@ -39,7 +39,7 @@ module _ (i : Input) (bytes : (v : ℕ) → getD (i .priorities2) v 0 < 256) (wi
     pub said : a ≡ b
     pub winners-same : winners ≡ winners′
     pub work-same : work ≡ work′
-    pub kept-moves : (v : ℕ) → v < length (i .owners) → ¬ Redone i winners moves work v → moveOf moves v ≡ moveOf moves′ v
+    pub kept-moves : (v : ℕ) → v < length (i .owners) → ¬ Redone i v → moveOf moves v ≡ moveOf moves′ v
     pub lost-moves : (v : ℕ) → v < length (i .owners) → secondGame i .owner v ≢ markOf winners v → moveOf moves v ≡ moveOf moves′ v
     pub refused-moves : (k x : ℕ) → a ≡ refused k x → moves ≡ moves′
 

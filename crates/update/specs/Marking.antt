@@ -29,19 +29,20 @@ pub record Seeding (P : ℕ → Type 0) (n : ℕ) (before after : List ℕ) (tai
   pub sound : (u : ℕ) → getD (section 1 n after) u 0 ≡ 1 → P u × (u < v)
   pub all : (u : ℕ) → u < v → P u → getD (section 1 n after) u 0 ≡ 1
 
--- the closure's marks, in section 1 of the work space of n vertices, as bytes
+-- the closure's marks, in section 1 of the work space of n vertices, can be copied as bytes
 pub record Copyable (n : ℕ) (marks work : List ℕ) : Type 0 where
   pub room : n ≤ length marks
   pub long : length work ≡ 4 * n
   pub flag : (v : ℕ) → v < n → getD (section 1 n work) v 0 ≤ 1
 
+-- the marks of the vertices below v are copied
 pub record Copied (n : ℕ) (work marks : List ℕ) (v : ℕ) : Type 0 where
   pub same : (u : ℕ) → u < v → getD marks u 0 ≡ getD (section 1 n work) u 0
 
 module _ (owners priorities starts targets owners2 priorities2 starts2 targets2 : List ℕ) where
   -- a vertex of the second game that has a path to a differing one
-  abbrev pub Amended : ℕ → Type 0
-  Amended = Reaches (gameOf owners2 priorities2 starts2 targets2) (gameOf owners priorities starts targets) (gameOf owners2 priorities2 starts2 targets2)
+  abbrev pub Reached : ℕ → Type 0
+  Reached = Reaches (gameOf owners2 priorities2 starts2 targets2) (gameOf owners priorities starts targets) (gameOf owners2 priorities2 starts2 targets2)
 
   -- what seeding asks
   pub record Seedable (work : List ℕ) : Type 0 where
@@ -60,6 +61,6 @@ module _ (owners priorities starts targets owners2 priorities2 starts2 targets2 
 
   -- what it gives: the marks, their number, and the work space all zero again
   pub record Marked (work marks′ work′ : List ℕ) (count : ℕ) : Type 0 where
-    pub flags : Flags Amended (length owners2) marks′
-    pub number : Number Amended (length owners2) count
+    pub flags : Flags Reached (length owners2) marks′
+    pub number : Number Reached (length owners2) count
     pub zeroed : Zeroed work work′

@@ -8,8 +8,8 @@ use Rattle.game.specs.Buffers.{Zeroed}
 use Rattle.winning.specs.Answer.{Accepted}
 use Rattle.reach.specs.Lists.{Filled}
 use Rattle.update.specs.Amended.{Number}
-use Rattle.update.specs.Marking.{Paired, Amended}
-use Rattle.update.specs.Updating.{Input, firstGame, secondGame}
+use Rattle.update.specs.Marking.{Paired}
+use Rattle.update.specs.Updating.{Input, firstGame, secondGame, Redone}
 
 module _ (i : Input) where
   -- the games and buffers have passed every test, the old answer is accepted, the work space is all zero
@@ -23,16 +23,12 @@ module _ (i : Input) where
     pub accepted : Accepted (firstGame i) (markOf (i .old-winners)) (moveOf (i .old-moves))
     pub blank : Filled (i .work) 0
 
-  -- a vertex of the second game that the amendment reaches
-  abbrev pub Reached : ℕ → Type 0
-  Reached = Amended (i .owners) (i .priorities) (i .starts) (i .targets) (i .owners2) (i .priorities2) (i .starts2) (i .targets2)
-
-  -- their number, and an accepted answer in which the others have their old lines
+  -- the number of vertices that the amendment reaches, and an accepted answer in which the others have their old lines
   pub record RedoneTo (winners′ moves′ work′ : List ℕ) (count : ℕ) : Type 0 where
-    pub number : Number Reached (length (i .owners)) count
+    pub number : Number (Redone i) (length (i .owners)) count
     pub winners-long : length winners′ ≡ length (i .winners)
     pub moves-long : length moves′ ≡ length (i .moves)
     pub accepted : Accepted (secondGame i) (markOf winners′) (moveOf moves′)
-    pub kept-mark : (v : ℕ) → v < length (i .owners) → ¬ Reached v → markOf winners′ v ≡ markOf (i .old-winners) v
-    pub kept-move : (v : ℕ) → v < length (i .owners) → ¬ Reached v → moveOf moves′ v ≡ moveOf (i .old-moves) v
+    pub kept-mark : (v : ℕ) → v < length (i .owners) → ¬ Redone i v → markOf winners′ v ≡ markOf (i .old-winners) v
+    pub kept-move : (v : ℕ) → v < length (i .owners) → ¬ Redone i v → moveOf moves′ v ≡ moveOf (i .old-moves) v
     pub zeroed : Zeroed (i .work) work′

@@ -54,9 +54,11 @@ pub record Input : Type 0 where
   pub moves : List ℕ
   pub work : List ℕ
 
+-- the game that the old answer is to
 abbrev pub firstGame : Input → Game
 firstGame i = gameOf (i .owners) (i .priorities) (i .starts) (i .targets)
 
+-- the amended game
 abbrev pub secondGame : Input → Game
 secondGame i = gameOf (i .owners2) (i .priorities2) (i .starts2) (i .targets2)
 
@@ -69,22 +71,22 @@ updateRows i =
     record { number = 8; applies = Fault8 (length (i .owners)) (length (i .old-winners)) (length (i .old-moves)) (length (i .winners)) (length (i .moves)) (length (i .work)) } ∷
     answerRows (firstGame i) (markOf (i .old-winners)) (moveOf (i .old-moves))
 
-module _ (i : Input) (winners′ moves′ work′ : List ℕ) where
-  -- a vertex of the second game that the amendment reaches
-  abbrev pub Redone : ℕ → Type 0
-  Redone = Reaches (secondGame i) (firstGame i) (secondGame i)
+-- a vertex of the second game that the amendment reaches
+abbrev pub Redone : Input → ℕ → Type 0
+Redone i = Reaches (secondGame i) (firstGame i) (secondGame i)
 
+module _ (i : Input) (winners′ moves′ work′ : List ℕ) where
   -- success: the answer is right for the second game, lines that the amendment does not reach are kept, the count is the number of the others
   pub record Decided (values : List ℕ) : Type 0 where
     pub none : None (updateRows i)
     pub count : ℕ
     pub value : values ≡ count ∷ []
-    pub number : Number Redone (length (i .owners)) count
+    pub number : Number (Redone i) (length (i .owners)) count
     pub winners-long : length winners′ ≡ length (i .winners)
     pub moves-long : length moves′ ≡ length (i .moves)
     pub accepted : Accepted (secondGame i) (markOf winners′) (moveOf moves′)
-    pub kept-mark : (v : ℕ) → v < length (i .owners) → ¬ Redone v → markOf winners′ v ≡ markOf (i .old-winners) v
-    pub kept-move : (v : ℕ) → v < length (i .owners) → ¬ Redone v → moveOf moves′ v ≡ moveOf (i .old-moves) v
+    pub kept-mark : (v : ℕ) → v < length (i .owners) → ¬ Redone i v → markOf winners′ v ≡ markOf (i .old-winners) v
+    pub kept-move : (v : ℕ) → v < length (i .owners) → ¬ Redone i v → moveOf moves′ v ≡ moveOf (i .old-moves) v
     pub zeroed : Zeroed (i .work) work′
 
   -- refusal: the first row that applies; 11 to 14 leave the work space all zero, all else is unchanged

@@ -1,4 +1,5 @@
--- The checker's verdict on the old answer, and the part after acceptance, each by its contract (Outcomes).
+-- `update::amend` meets its contract: the checker's verdict on the old answer, and the part after acceptance (Outcomes).
+-- Assumes nothing.
 use Prim.Native.Nat.{ℕ, _<_}
 use native.Mathlib.Omega.{arith}
 use borrow.Author.Needs.{needs}
@@ -47,10 +48,15 @@ same-length : tie.Need-same-length
 same-length c = search needs
 
 returns : tie.Need-returns
-returns c = refused-judged _ (bytes (refusing c .before)) (entry (refusing c .before) .pre) (refusing c .judge .ensures) (c .before .enum-told2 .given .1) (c .given .ensures _ (c .before .enum-told2 .given .1))
+returns c =
+    let j = refusing c in
+    refused-judged _ (bytes (j .before)) (entry (j .before) .pre) (j .judge .ensures) (c .before .enum-told2 .given .1) (c .given .ensures _ (c .before .enum-told2 .given .1))
 
 redo-requires : tie.Need-redo-requires
-redo-requires c κs = redoing-asks _ (bytes (accepting (told c) .before)) (entry (accepting (told c) .before) .pre) (accepting (told c) .judge .ensures) (bytes2 (accepting (told c) .before)) (told c .enum-told .given .1)
+redo-requires c κs =
+    let t = told c in
+    let j = accepting t in
+    redoing-asks _ (bytes (j .before)) (entry (j .before) .pre) (j .judge .ensures) (bytes2 (j .before)) (t .enum-told .given .1)
 
 same-length-2 : tie.Need-same-length-2
 same-length-2 c = search needs
@@ -62,7 +68,10 @@ same-length-4 : tie.Need-same-length-4
 same-length-4 c = search needs
 
 returns-2 : tie.Need-returns-2
-returns-2 c = done _ (bytes (accepting (told (redone c .before)) .before)) (entry (accepting (told (redone c .before)) .before) .pre) (accepting (told (redone c .before)) .judge .ensures) (told (redone c .before) .enum-told .given .1) (redone c .redo .ensures)
+returns-2 c =
+    let t = told (redone c .before) in
+    let j = accepting t in
+    done _ (bytes (j .before)) (entry (j .before) .pre) (j .judge .ensures) (t .enum-told .given .1) (redone c .redo .ensures)
 
 pub amend-spec : {M : Type 1} → statement M
 amend-spec =

@@ -1,4 +1,5 @@
--- The verdict is the checker's refusal, or it is acceptance and no refusal equals it.
+-- `update::given` meets its contract: the verdict is the checker's refusal, or it is acceptance and no refusal equals it.
+-- Assumes nothing.
 use Prim.Native.Nat.{ℕ}
 use mathlib.Core.Path.{_≡_}
 use native.Mathlib.Omega.{arith}

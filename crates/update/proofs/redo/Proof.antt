@@ -1,10 +1,8 @@
--- The predecessor lists are built, no choice is set, what the amendment reaches is marked and decided anew (Redoings).
+-- `update::redo` meets its contract: the predecessor lists are built, no choice is set, what the amendment reaches is marked and decided anew (Redoings).
+-- Assumes nothing.
 use mathlib.Core.Path.{_≡_, refl, _∙_}
 use borrow.Author.Needs.{needs}
-use denote.Ref.{now}
 use lib.ListN.{length}
-use Rattle.update.specs.Refusing.{inputOf}
-use Rattle.update.specs.Redoing.{Redoable}
 use Rattle.update.proofs.Redoings.{building-asks, marking-asks, deciding-asks, redone}
 use Rattle.update.proofs.redo.Statement.{statement}
 use Rattle.update.proofs.redo.Tie as tie
@@ -25,9 +23,8 @@ marked c = c .before .before .before .before .before .before .before .before .be
 abbrev decided : tie.After-slice-known8 → tie.After-decide
 decided c = c .before .before .before .before .before .before
 
--- what the function asks, at the first call after which it is needed
-asked : (c : tie.After-fill) → Redoable (inputOf (now (entry (built c .before) .args .owners)) (now (entry (built c .before) .args .priorities)) (now (entry (built c .before) .args .starts)) (now (entry (built c .before) .args .targets)) (now (entry (built c .before) .args .owners2)) (now (entry (built c .before) .args .priorities2)) (now (entry (built c .before) .args .starts2)) (now (entry (built c .before) .args .targets2)) (now (entry (built c .before) .args .old-winners)) (now (entry (built c .before) .args .old-moves)) (now (entry (built c .before) .args .winners)) (now (entry (built c .before) .args .moves)) (now (entry (built c .before) .args .work)))
-asked c = entry (built c .before) .pre
+abbrev asked : tie.After-fill → tie.Start
+asked c = entry (built c .before)
 
 marks-long : (c : tie.After-mark-reaching) → length (c .mark-reaching .last .1 .1 .1 .1 .1 .1 .1 .1 .1 .1 .1 .1 .0) ≡ 2048
 marks-long c = c .mark-reaching .kept .1 .1 .1 .1 .1 .1 .1 .1 .1 .1 .1 .1 .0
@@ -60,7 +57,9 @@ slice-aggregate-mark-reaching-4 : tie.Need-slice-aggregate-mark-reaching-4
 slice-aggregate-mark-reaching-4 c = search needs
 
 mark-reaching-requires : tie.Need-mark-reaching-requires
-mark-reaching-requires c κs = marking-asks _ (asked (filled c)) (built (filled c) .predecessors .ensures) (filled c .fill .ensures .0) (filled c .fill .ensures .1) refl
+mark-reaching-requires c κs =
+    let f = filled c in
+    marking-asks _ (asked f .pre) (built f .predecessors .ensures) (f .fill .ensures .0) (f .fill .ensures .1) refl
 
 slice-aggregate-decide : tie.Need-slice-aggregate-decide
 slice-aggregate-decide c = search needs
@@ -76,7 +75,9 @@ slice-aggregate-decide-4 c = search needs
 
 decide-requires : tie.Need-decide-requires
 decide-requires c κs =
-    deciding-asks _ (asked (filled (marked c .before))) (built (filled (marked c .before)) .predecessors .ensures) (filled (marked c .before) .fill .ensures .0) (filled (marked c .before) .fill .ensures .1) (marked c .mark-reaching .ensures) (marks-long (marked c))
+    let m = marked c in
+    let f = filled (m .before) in
+    deciding-asks _ (asked f .pre) (built f .predecessors .ensures) (f .fill .ensures .0) (f .fill .ensures .1) (m .mark-reaching .ensures) (marks-long m)
 
 same-length : tie.Need-same-length
 same-length c = search needs
@@ -89,7 +90,10 @@ same-length-3 c = search needs
 
 returns : tie.Need-returns
 returns c =
-    redone _ (asked (filled (marked (decided c .before) .before))) (built (filled (marked (decided c .before) .before)) .predecessors .ensures) (filled (marked (decided c .before) .before) .fill .ensures .0) (filled (marked (decided c .before) .before) .fill .ensures .1) (marked (decided c .before) .mark-reaching .ensures) (decided c .decide .ensures)
+    let d = decided c in
+    let m = marked (d .before) in
+    let f = filled (m .before) in
+    redone _ (asked f .pre) (built f .predecessors .ensures) (f .fill .ensures .0) (f .fill .ensures .1) (m .mark-reaching .ensures) (d .decide .ensures)
 
 pub redo-spec : {M : Type 1} → statement M
 redo-spec =

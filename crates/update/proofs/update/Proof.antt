@@ -1,4 +1,5 @@
--- The tests before the checker's refuse, or what follows them gives the outcome (Outcomes).
+-- `update::update` meets its contract: the tests before the checker's refuse, or what follows them gives the outcome (Outcomes).
+-- Assumes nothing.
 use borrow.Author.Needs.{needs}
 use Rattle.update.proofs.Outcomes.{refused-early, passed-early}
 use Rattle.update.proofs.update.Statement.{statement}

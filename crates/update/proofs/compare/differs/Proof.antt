@@ -1,9 +1,8 @@
--- The three comparisons in turn: the first that fails is one way to differ, and past all of them the games agree.
+-- `update::compare::differs` meets its contract: the first comparison that fails is one way to differ, and past all three the games agree (Differing).
+-- Assumes nothing.
 use Prim.Native.Nat.{ℕ, _<_}
-use mathlib.Core.Path.{_≡_, sym, subst, _∙_}
+use mathlib.Core.Path.{sym, subst, _∙_}
 use borrow.Author.Needs.{needs}
-use denote.Ref.{now}
-use Rattle.game.specs.Tables.{nextOf}
 use Rattle.game.proofs.Starts.{stretch-of}
 use Rattle.update.specs.Amended.{owner, priority, successors}
 use Rattle.checker.proofs.Says.{says-yes, says-no}
@@ -13,10 +12,6 @@ use Rattle.update.proofs.compare.differs.Tie as tie
 
 abbrev start : tie.Else2 → tie.Start
 start c = c .before .before .before .before .before .before .before .before .before .before .before .before .before .before
-
--- equal stretches are equal successors
-same : (c : tie.After-successors2) → now (c .before .successors .result) ≡ now (c .successors2 .result) → nextOf (now (start (c .before .before) .args .starts)) (now (start (c .before .before) .args .targets)) (start (c .before .before) .args .v) ≡ nextOf (now (start (c .before .before) .args .starts2)) (now (start (c .before .before) .args .targets2)) (start (c .before .before) .args .v)
-same c e = sym (c .before .successors .ensures) ∙ e ∙ c .successors2 .ensures
 
 shared-slice-read-if1 : tie.Need-shared-slice-read-if1
 shared-slice-read-if1 c = search needs
@@ -40,17 +35,22 @@ successors-requires : tie.Need-successors-requires
 successors-requires c κs = stretch-of _ _ _ (start c .pre .1 .first .placed) _ (start c .pre .0)
 
 successors-requires-2 : tie.Need-successors-requires-2
-successors-requires-2 c κs = stretch-of _ _ _ (start (c .before) .pre .1 .second .placed) _ (subst (λ (n : ℕ). start (c .before) .args .v < n) (start (c .before) .pre .1 .size) (start (c .before) .pre .0))
+successors-requires-2 c κs = let s = start (c .before) in stretch-of _ _ _ (s .pre .1 .second .placed) _ (subst (λ (n : ℕ). s .args .v < n) (s .pre .1 .size) (s .pre .0))
 
 same-stretch-requires : tie.Need-same-stretch-requires
 same-stretch-requires c κs = search needs
 
 returns-3 : tie.Need-returns-3
 returns-3 c =
-    says-no (same-of _ _ _ (record { owner = c .before .before .before .before .before .before .before .if1 .left; priority = c .before .before .before .before .if2 .left; next = same (c .before .before) (c .before .same-stretch .ensures .holds (c .if3 .taken)) }))
+    let s = c .before .before in
+    let e = s .before .before in
+    let same = sym (s .before .successors .ensures) ∙ c .before .same-stretch .ensures .holds (c .if3 .taken) ∙ s .successors2 .ensures in
+    says-no (same-of _ _ _ (record { owner = e .before .before .before .if1 .left; priority = e .if2 .left; next = same }))
 
 returns-4 : tie.Need-returns-4
-returns-4 c = says-yes (successors (λ e. c .before .same-stretch .ensures .fails (c .if3 .left) (c .before .before .before .successors .ensures ∙ e ∙ sym (c .before .before .successors2 .ensures))))
+returns-4 c =
+    let s = c .before .before in
+    says-yes (successors (λ e. c .before .same-stretch .ensures .fails (c .if3 .left) (s .before .successors .ensures ∙ e ∙ sym (s .successors2 .ensures))))
 
 pub differs-spec : {M : Type 1} → statement M
 differs-spec =

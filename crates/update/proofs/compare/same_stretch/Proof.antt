@@ -1,4 +1,5 @@
--- The loop's invariant: the numbers passed are equal in both stretches; lists of one length with equal numbers are equal.
+-- `update::compare::same_stretch` meets its contract. The invariant: the numbers passed are equal; lists of one length with equal numbers are equal.
+-- Assumes nothing.
 use Prim.Native.Nat.{ℕ, _≤_, _<_, _-_}
 use mathlib.Core.Path.{_≡_, sym, ap}
 use mathlib.Core.List.{List}

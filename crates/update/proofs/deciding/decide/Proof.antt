@@ -1,4 +1,5 @@
--- Preparing, settling and clearing in turn, each by its contract (Anew).
+-- `update::deciding::decide` meets its contract: preparing, settling and clearing in turn (Anew).
+-- Assumes nothing.
 use borrow.Author.Needs.{needs}
 use Rattle.update.proofs.Anew.{settling-asks, decided-anew}
 use Rattle.update.proofs.deciding.decide.Statement.{statement}
@@ -13,7 +14,7 @@ prepare-requires c κs = search needs
 settle-requires : tie.Need-settle-requires
 settle-requires c κs =
     let prepared = c .before .before .before .before .before .before .before .before .before in
-    settling-asks _ _ _ _ _ _ _ _ _ _ _ _ _ (entry (prepared .before) .pre) (prepared .prepare .ensures)
+    settling-asks (entry (prepared .before) .pre) (prepared .prepare .ensures)
 
 fill-requires : tie.Need-fill-requires
 fill-requires c κs = search needs
@@ -32,7 +33,7 @@ returns c =
     let filled = c .before .before in
     let settled = filled .before .before .before .before .before .before .before .before in
     let prepared = settled .before .before .before .before .before .before .before .before .before .before in
-    decided-anew _ _ _ _ _ _ _ _ _ _ _ _ _ (entry (prepared .before) .pre) (prepared .prepare .ensures) (prepared .prepare .kept .1 .1 .1 .1 .1 .0) (settled .settle .ensures) (filled .fill .ensures .0) (filled .fill .ensures .1)
+    decided-anew (entry (prepared .before) .pre) (prepared .prepare .ensures) (prepared .prepare .kept .1 .1 .1 .1 .1 .0) (settled .settle .ensures) (filled .fill .ensures .0) (filled .fill .ensures .1)
 
 pub decide-spec : {M : Type 1} → statement M
 decide-spec =

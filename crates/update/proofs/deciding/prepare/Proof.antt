@@ -1,4 +1,5 @@
--- The loop's invariant: the lines of the vertices passed are those that the engine starts with.
+-- `update::deciding::prepare` meets its contract. The invariant, `Prepared`: the lines of the vertices passed are those that the engine starts with.
+-- Assumes nothing.
 use Prim.Native.Nat.{_≤_, _-_}
 use mathlib.Core.Path.{_≡_, refl, _∙_}
 use native.Mathlib.Omega.{arith}
@@ -24,7 +25,7 @@ abbrev turn : tie.After-shared-slice-known5 Inv-loop μ-loop → tie.In-loop Inv
 turn c = c .before .before .before .before .before .before .before .before .before .before .before
 
 loop-holds : tie.Need-loop-holds Inv-loop μ-loop
-loop-holds c = (search needs, search needs, prepared-none _ _ _ _ _ (entry c .pre))
+loop-holds c = (search needs, search needs, prepared-none (entry c .pre))
 
 start-mark-requires : tie.Need-start-mark-requires Inv-loop μ-loop
 start-mark-requires c κs =
@@ -69,7 +70,7 @@ loop-again c =
     let marked = moved .before .before .before .before .before in (
       search needs,
       marked .set-mark .kept .0 ∙ turn c .before .loop .inv .1,
-      prepared-more _ _ _ _ _ (turn c .before .loop .inv .2) (turn c .loop-test .taken) (marked .before .start-mark .ensures) (marked .set-mark .ensures) (moved .before .start-move .ensures) (moved .record-move .ensures) refl,
+      prepared-more (turn c .before .loop .inv .2) (turn c .loop-test .taken) (marked .before .start-mark .ensures) (marked .set-mark .ensures) (moved .before .start-move .ensures) (moved .record-move .ensures) refl,
     )
 
 same-length : tie.Need-same-length Inv-loop μ-loop
@@ -82,7 +83,7 @@ same-length-3 : tie.Need-same-length-3 Inv-loop μ-loop
 same-length-3 c = search needs
 
 returns : tie.Need-returns Inv-loop μ-loop
-returns c = prepared-all _ _ _ _ _ (search needs) (c .before .loop .inv .2)
+returns c = prepared-all (search needs) (c .before .loop .inv .2)
 
 pub prepare-spec : {M : Type 1} → statement M
 prepare-spec =

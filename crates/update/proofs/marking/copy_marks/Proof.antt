@@ -1,4 +1,5 @@
--- The loop's invariant: the marks of the vertices passed are copied. A mark is 0 or 1, so it is a byte.
+-- `update::marking::copy_marks` meets its contract. The invariant, `Copied`: the marks of the vertices passed are copied. A mark is 0 or 1, so it is a byte.
+-- Assumes nothing.
 use Prim.Native.Nat.{_<_, _≤_, _-_}
 use mathlib.Core.Path.{_≡_}
 use native.Mathlib.Omega.{arith}
@@ -30,8 +31,10 @@ shared-slice-read-marks c = search needs
 
 cast-marks : tie.Need-cast-marks Inv-loop μ-loop
 cast-marks c =
-    let l : c .before .before .loop .v < c .before .before .before .args .n = search needs in
-    omega (arith, mark-read (c .before .before .before .args .n) (now (c .before .before .before .args .work)) (c .before .before .before .pre .long) (c .before .before .loop .v) l, c .before .before .before .pre .flag (c .before .before .loop .v) l)
+    let t = c .before .before in
+    let s = t .before in
+    let l : t .loop .v < s .args .n = search needs in
+    omega (arith, mark-read (s .args .n) (now (s .args .work)) (s .pre .long) (t .loop .v) l, s .pre .flag (t .loop .v) l)
 
 slice-write-marks : tie.Need-slice-write-marks Inv-loop μ-loop
 slice-write-marks c = search needs

@@ -1,4 +1,5 @@
--- Seeding, closing, copying and clearing in turn, each by its contract.
+-- `update::marking::mark_reaching` meets its contract: seeding, closing, copying and clearing in turn (Marks).
+-- Assumes nothing.
 use borrow.Author.Needs.{needs}
 use Rattle.update.proofs.Marks.{closing-asks, copying-asks, marked}
 use Rattle.update.proofs.marking.mark_reaching.Statement.{statement}
@@ -11,13 +12,13 @@ seed-differing-requires : tie.Need-seed-differing-requires
 seed-differing-requires c κs = search needs
 
 close-requires : tie.Need-close-requires
-close-requires c κs = closing-asks _ _ _ _ _ _ _ _ _ _ _ _ _ _ (entry (c .before .before .before .before) .pre) (c .before .before .before .seed-differing .ensures)
+close-requires c κs = closing-asks (entry (c .before .before .before .before) .pre) (c .before .before .before .seed-differing .ensures)
 
 copy-marks-requires : tie.Need-copy-marks-requires
 copy-marks-requires c κs =
     let closed = c .before .before .before .before in
     let seeded = closed .before .before .before .before in
-    copying-asks _ _ _ _ _ _ _ _ _ _ _ _ _ _ (entry (seeded .before) .pre) (seeded .seed-differing .ensures) (closed .close .ensures)
+    copying-asks (entry (seeded .before) .pre) (seeded .seed-differing .ensures) (closed .close .ensures)
 
 fill-requires : tie.Need-fill-requires
 fill-requires c κs = search needs
@@ -34,7 +35,7 @@ returns c =
     let copied = filled .before .before .before .before in
     let closed = copied .before .before .before .before .before in
     let seeded = closed .before .before .before .before in
-    marked _ _ _ _ _ _ _ _ _ _ _ _ _ _ (entry (seeded .before) .pre) (seeded .seed-differing .ensures) (closed .close .ensures) (copied .copy-marks .ensures) (filled .fill .ensures .0) (filled .fill .ensures .1)
+    marked (entry (seeded .before) .pre) (seeded .seed-differing .ensures) (closed .close .ensures) (copied .copy-marks .ensures) (filled .fill .ensures .0) (filled .fill .ensures .1)
 
 pub mark-reaching-spec : {M : Type 1} → statement M
 mark-reaching-spec =

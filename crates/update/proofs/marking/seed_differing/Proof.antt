@@ -1,4 +1,5 @@
--- The loop's invariant: of the vertices passed those that differ are seeds.
+-- `update::marking::seed_differing` meets its contract. The invariant, `Seeding`: of the vertices passed those that differ are seeds.
+-- Assumes nothing.
 use Prim.Native.Nat.{_≤_, _-_}
 use mathlib.Core.Logic.{⊎-elim}
 use native.Mathlib.Omega.{arith}
@@ -22,7 +23,7 @@ abbrev entry : tie.After-slice-known Inv-loop μ-loop → tie.Start Inv-loop μ-
 entry c = c .before .before .before .before .before .before .before .before .before
 
 loop-holds : tie.Need-loop-holds Inv-loop μ-loop
-loop-holds c = (search needs, seeding-none _ _ _ (entry c .pre .long) (entry c .pre .blank))
+loop-holds c = (search needs, seeding-none (entry c .pre .long) (entry c .pre .blank))
 
 differs-requires : tie.Need-differs-requires Inv-loop μ-loop
 differs-requires c κs = (omega (arith, entry (c .before .before) .pre .paired .size), entry (c .before .before) .pre .paired)
@@ -30,7 +31,7 @@ differs-requires c κs = (omega (arith, entry (c .before .before) .pre .paired .
 seed-requires : tie.Need-seed-requires Inv-loop μ-loop
 seed-requires c κs =
     let i = c .before .before .before in
-    seeding-asks _ _ _ (entry (i .before .before) .pre .long) (i .before .loop .inv .1) (entry (i .before .before) .pre .paired .second .sound .few) (i .loop-test .taken)
+    seeding-asks (entry (i .before .before) .pre .long) (i .before .loop .inv .1) (entry (i .before .before) .pre .paired .second .sound .few) (i .loop-test .taken)
 
 add-v : tie.Need-add-v Inv-loop μ-loop
 add-v c = search needs
@@ -46,8 +47,8 @@ loop-again c =
     let tells = c .before .differs .ensures in (
       search needs,
       ⊎-elim
-          (λ w. seeding-one _ _ _ long now (w .5) (w .6) (tells .holds (w .0 .taken)) (w .2 .ensures))
-          (λ w. seeding-skip _ _ _ long now (w .1) (w .2) (tells .fails (w .0 .left)))
+          (λ w. seeding-one long now (w .5) (w .6) (tells .holds (w .0 .taken)) (w .2 .ensures))
+          (λ w. seeding-skip long now (w .1) (w .2) (tells .fails (w .0 .left)))
           (c .if1 .came),
     )
 

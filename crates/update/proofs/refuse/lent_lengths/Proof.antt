@@ -1,4 +1,5 @@
--- Each test that is taken is one way to fail row 8; past all of them every buffer has its length.
+-- `update::refuse::lent_lengths` meets its contract: each test that is taken is one way to fail row 8; past all of them every buffer has its length (Lengths).
+-- Assumes nothing.
 use borrow.Author.Needs.{needs}
 use mathlib.Core.Path.{refl}
 use Rattle.refusal.specs.Found.{scan-none, scan-found}

@@ -1,4 +1,5 @@
--- Each of seven arms knows its kind; the last one has a tag of 7 or more, which no kind with a number below 8 has.
+-- `update::refuse::second` meets its contract: each of seven arms knows its kind; the last has a tag of 7 or more, which no kind with a number below 8 has.
+-- Assumes nothing.
 use Prim.Native.Nat.{ℕ, _<_, _≤_}
 use mathlib.Core.Path.{ap}
 use mathlib.Core.Logic.{inl, inr}

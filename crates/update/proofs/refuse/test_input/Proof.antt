@@ -1,4 +1,6 @@
--- The first game's rows, the second's, the sizes, the lengths: each that is passed applies nowhere, and the one that is given applies first (Refusals).
+-- `update::refuse::test_input` meets its contract. The first game's rows, the second's, the sizes, the lengths: each that is passed applies nowhere, and the
+-- one that is given applies first (Refusals).
+-- Assumes nothing.
 use borrow.Author.Needs.{needs}
 use denote.Ref.{now}
 use Rattle.refusal.specs.Row.{None}
