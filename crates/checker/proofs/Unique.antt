@@ -6,7 +6,6 @@ use mathlib.Core.List.{List, []}
 use native.Mathlib.Decide.{decLt}
 use native.Mathlib.Omega.{arith}
 use lib.ListN.{length}
-use Rattle.refusal.specs.declared.Refusal.{Refusal}
 use Rattle.refusal.specs.Number.{numberOf}
 use Rattle.refusal.specs.Row.{Row, Said, success, refused, first-not-none, first-unique, first-number, none-right, none-append}
 use Rattle.refusal.specs.Found.{refusal-unique}

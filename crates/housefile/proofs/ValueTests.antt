@@ -6,7 +6,7 @@ use native.Mathlib.Omega.{arith}
 use native.Mathlib.Decide.{ℕ-discrete}
 use lib.ListN.{length, getD, take, drop, length-take, length-drop}
 use lib.Seq.{getD-take, getD-drop}
-use Rattle.refusal.specs.Row.{Lowest, NoPlace}
+use Rattle.refusal.specs.Row.{NoPlace}
 use Rattle.refusal.specs.Found.{Scanned}
 use Rattle.game.specs.Faults.{Fault2, Fault3, Fault5, Fault6, Descent}
 use Rattle.housefile.specs.Format.{sumTo}

@@ -1,6 +1,6 @@
 -- The start with nothing kept is safe, and what the engine leaves is the answer.
-use Prim.Native.Nat.{ℕ, _-_, _*_, _<_}
-use mathlib.Core.Path.{_≡_, sym, ap, subst, _∙_}
+use Prim.Native.Nat.{ℕ, _-_, _<_}
+use mathlib.Core.Path.{_≡_, sym, subst, _∙_}
 use mathlib.Core.Logic.{_≢_}
 use mathlib.Core.List.{List}
 use native.Mathlib.Omega.{arith}
@@ -13,16 +13,14 @@ use Rattle.justification.proofs.Started.{fresh-safe}
 use Rattle.reach.specs.Work.{section}
 use Rattle.reach.specs.Lists.{Filled}
 use Rattle.reach.specs.Build.{Built}
+use Rattle.reach.proofs.Stores.{filled-zeroed}
 use Rattle.step.specs.State.{settledOf}
 use Rattle.solver.specs.Settling.{Settleable, SettledTo}
-use Rattle.solver.specs.Starting.{Openable, AllOpen, Answerable, AnsweredBy}
+use Rattle.solver.specs.Starting.{AllOpen, Answerable, AnsweredBy}
 
 module _ (owners priorities starts targets winners moves work : List ℕ) (a : Answerable owners priorities starts targets winners moves work) where
   level : length priorities ≡ length owners
   level = a .well-formed .level
-
-  pub openable : Openable priorities winners work
-  openable = record { winners-long = a .winners-long ∙ sym level; work-long = a .work-long ∙ ap (λ (n : ℕ). 4 * n) (sym level) }
 
   module _ {winners2 work2 : List ℕ} (o : AllOpen priorities winners work winners2 work2) where
     safe : Safe (gameOf owners priorities starts targets) (markOf winners2) (moveOf moves) (settledOf (length owners) work2)
@@ -60,5 +58,5 @@ module _ (owners priorities starts targets winners moves work : List ℕ) (a : A
           winners-kept = t .winners-long ∙ (sym (room-is winners2) ∙ (o .room ∙ room-is winners));
           moves-kept = t .moves-long;
           accepted = t .accepted;
-          zeroed = record { long = long4 ∙ (t .work-long ∙ o .long); zero = zero4 .all };
+          zeroed = filled-zeroed (long4 ∙ (t .work-long ∙ o .long)) zero4;
         }

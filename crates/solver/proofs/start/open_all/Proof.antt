@@ -3,7 +3,6 @@
 use Prim.Native.Nat.{_-_}
 use native.Mathlib.Omega.{arith}
 use lib.ListN.{length, length-set}
-use mathlib.Core.Path.{_≡_}
 use Rattle.game.specs.Answer.{markRoom}
 use Rattle.solver.proofs.Opening.{Opening, opening-none, opening-more, opening-all}
 use borrow.Author.Needs.{needs}
