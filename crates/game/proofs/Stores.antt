@@ -1,9 +1,9 @@
--- A store into winners or moves changes one vertex's line.
+-- A store into winners or moves changes one vertex's line; marks determine a list of winners.
 use Prim.Native.Nat.{ℕ, _<_}
-use mathlib.Core.Path.{_≡_, refl}
+use mathlib.Core.Path.{_≡_, refl, sym, subst, _∙_}
 use mathlib.Core.List.{List}
 use lib.ListN.{length, set, length-set}
-use lib.Seq.{getD-set-same, getD-set-other}
+use lib.Seq.{getD-set-same, getD-set-other, ext-getD}
 use Rattle.game.specs.Answer.{markRoom, markOf, moveOf, MarkSet, MoveSet}
 
 pub mark-set : (l : List ℕ) (v p : ℕ) → v < markRoom l → MarkSet l (set l v p) v p
@@ -28,3 +28,8 @@ move-set l v m h =
 pub room-is : (l : List ℕ) → markRoom l ≡ length l
 unfolding markRoom
 room-is l = refl
+
+-- lists of winners for n vertices with the same marks are equal
+pub same-marks : {n : ℕ} {a b : List ℕ} → length a ≡ n → length b ≡ n → ((v : ℕ) → v < n → markOf a v ≡ markOf b v) → a ≡ b
+unfolding markOf
+same-marks {a} {b} la lb same = ext-getD 0 a b (la ∙ sym lb) (λ v l. same v (subst (λ (k : ℕ). v < k) la l))

@@ -1,17 +1,17 @@
 -- The solver's promise has no second outcome but for moves where the winner owns; every well-formed game is solved, and rightly.
 use Prim.Native.Nat.{ℕ, _*_, _<_}
-use mathlib.Core.Path.{_≡_, refl, sym, ap, subst, _∙_}
+use mathlib.Core.Path.{_≡_, refl, sym, ap, _∙_}
 use mathlib.Core.Logic.{_≢_}
 use mathlib.Core.List.{List, []}
 use native.Mathlib.Omega.{arith}
 use lib.ListN.{length, getD}
-use lib.Seq.{ext-getD}
 use Rattle.refusal.specs.Number.{numberOf}
 use Rattle.refusal.specs.Row.{Said, success, refused, first-not-none, first-unique, none-left, none-right, none-append}
 use Rattle.refusal.specs.Found.{refusal-unique}
 use Rattle.game.specs.Tables.{gameOf, WellFormed}
 use Rattle.game.specs.Faults.{tableRows}
 use Rattle.game.specs.Answer.{markOf, moveOf}
+use Rattle.game.proofs.Stores.{same-marks}
 use Rattle.game.proofs.Zeros.{zeroed-unique}
 use Rattle.game.proofs.Sizes.{lent-of-none, lengths-fit}
 use Rattle.game.proofs.WellFormed.{well-formed, none-applies}
@@ -21,11 +21,6 @@ use Rattle.winning.proofs.NobodyTwice.{accepted-same}
 use Rattle.solver.specs.declared.Solved.{Solved}
 use Rattle.solver.specs.declared.Solved.the-variants as solved
 use Rattle.solver.specs.Solving.{solvedSaid, lengthRow, solveRows, Solves}
-
--- lists of winners that are equally long and have the same marks are equal
-same-marks : (a b : List ℕ) → length a ≡ length b → ((v : ℕ) → v < length a → markOf a v ≡ markOf b v) → a ≡ b
-unfolding markOf
-same-marks a b e f = ext-getD 0 a b e f
 
 -- two outcomes on the same input: moves may differ only where the winner owns, after success
 pub record Same (owners winners1 moves1 work1 winners2 moves2 work2 : List ℕ) (a b : Said) : Type 0 where
@@ -52,7 +47,7 @@ module _ (owners priorities starts targets winners moves work : List ℕ) (bytes
       let r2 = accepted-right (gameOf owners priorities starts targets) (markOf winners2) (moveOf moves2) (y .accepted) in
       record {
         said = ap success (x .no-value ∙ sym (y .no-value));
-        winners = same-marks winners1 winners2 (x .winners-long ∙ sym (y .winners-long)) (λ v h. marks v (subst (λ (n : ℕ). v < n) (x .winners-long ∙ l .winners-are) h));
+        winners = same-marks (x .winners-long ∙ l .winners-are) (y .winners-long ∙ l .winners-are) marks;
         work = zeroed-unique (x .zeroed) (y .zeroed);
         elsewhere = λ v h ne. r1 .form .elsewhere v h ne ∙ sym (r2 .form .elsewhere v h (λ e. ne (e ∙ sym (marks v h))));
         refused-moves = λ k z e. let o : _≡_ {A = ℕ} 0 1 = cc in absurd (omega arith);

@@ -6,7 +6,6 @@ use mathlib.Core.List.{List, [], _∷_}
 use native.Mathlib.Decide.{decLt}
 use native.Mathlib.Omega.{arith}
 use lib.ListN.{length, getD}
-use lib.Seq.{ext-getD}
 use Rattle.refusal.specs.Row.{Said, success, refused, First, first-not-none, first-unique, first-number}
 use Rattle.refusal.specs.Found.{refusal-unique}
 use Rattle.game.specs.Tables.{WellFormed}
@@ -14,6 +13,7 @@ use Rattle.game.specs.Answer.{markOf, moveOf}
 use Rattle.game.proofs.WellFormed.{well-formed}
 use Rattle.winning.proofs.Accepted.{accepted-backed}
 use Rattle.winning.proofs.NobodyTwice.{accepted-same}
+use Rattle.game.proofs.Stores.{same-marks}
 use Rattle.game.proofs.Zeros.{zeroed-unique}
 use Rattle.update.specs.declared.Updated.{Updated}
 use Rattle.update.specs.declared.Updated.the-variants.{Done, Refused}
@@ -21,10 +21,6 @@ use Rattle.update.specs.Updating.{Input, secondGame, updateRows, updated
 use Rattle.update.proofs.Lengths.{Lent, lent-of-none}
 use Rattle.update.proofs.Rows.{Free, free-of-none}
 use Rattle.update.proofs.Numbers.{number-unique}
-
-marks-same : {n : ℕ} {a b : List ℕ} → length a ≡ n → length b ≡ n → ((v : ℕ) → v < n → markOf a v ≡ markOf b v) → a ≡ b
-unfolding markOf
-marks-same {a} {b} la lb same = ext-getD 0 a b (la ∙ sym lb) (λ v l. same v (subst (λ (k : ℕ). v < k) la l))
 
 -- no number is a multiple of ten, so each falls under one rule for the work space
 abbrev Sorted : ℕ → Type 0
@@ -47,7 +43,7 @@ module _ (i : Input) (bytes : (v : ℕ) → getD (i .priorities2) v 0 < 256) (wi
   decided-alike a b d d′ =
       record {
         said = ap success (d .value ∙ ap (λ (c : ℕ). c ∷ []) (number-unique (d .number) (d′ .number)) ∙ sym (d′ .value));
-        winners-same = marks-same (d .winners-long ∙ lent .winners-are ∙ free .size) (d′ .winners-long ∙ lent .winners-are ∙ free .size) mark;
+        winners-same = same-marks (d .winners-long ∙ lent .winners-are ∙ free .size) (d′ .winners-long ∙ lent .winners-are ∙ free .size) mark;
         work-same = zeroed-unique (d .zeroed) (d′ .zeroed);
         kept-moves = λ v l k. d .kept-move v l k ∙ sym (d′ .kept-move v l k);
         lost-moves = λ v l o. elsewhere v l o;
