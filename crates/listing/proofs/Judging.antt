@@ -5,7 +5,7 @@ use mathlib.Core.Logic.{inl, inr}
 use mathlib.Core.List.{List, [], _∷_, _++_}
 use native.Mathlib.Omega.{arith}
 use lib.ListN.{length, getD, length-take, length-drop}
-use Rattle.refusal.specs.Row.{Row, None, First, none-append, first-not-none}
+use Rattle.refusal.specs.Row.{Row, None, First, none-append, first-front, first-after}
 use Rattle.game.specs.Faults.{Fault7}
 use Rattle.game.specs.Tables.{nextOf}
 use Rattle.housefile.specs.Format.{vertexBlocks, targetBlocks}
@@ -36,17 +36,6 @@ use Rattle.housefile.specs.Faults.{
 use Rattle.housefile.specs.Tests.{turnRows}
 use Rattle.housefile.proofs.AllRows.{Fixed, none-of-fixed, all-head, all-turn, all-filed}
 use Rattle.housefile.proofs.Lists.{owners-long, targets-long}
-
--- the first row that applies is not among rows that do not apply
-first-front : (rows more : List Row) (k x : ℕ) → None more → First (rows ++ more) k x → First rows k x
-first-front [] more k x n f = absurd (first-not-none more k x f n)
-first-front (row ∷ rows) more k x n (inl here) = inl here
-first-front (row ∷ rows) more k x n (inr later) = inr (later .0, first-front rows more k x n (later .1))
-
-first-after : (rows more fewer : List Row) (k x : ℕ) → (First more k x → First fewer k x) → First (rows ++ more) k x → First (rows ++ fewer) k x
-first-after [] more fewer k x f a = f a
-first-after (row ∷ rows) more fewer k x f (inl here) = inl here
-first-after (row ∷ rows) more fewer k x f (inr later) = inr (later .0, first-after rows more fewer k x f (later .1))
 
 module _ (file owners priorities starts targets : List ℕ) where
   pub none-judged : None (fileRows file owners priorities starts targets) → None (judgedRows file)

@@ -76,6 +76,18 @@ pub first-right : (rows more : List Row) (k x : ℕ) → None rows → First mor
 first-right [] more k x n f = f
 first-right (row ∷ rows) more k x n f = inr (n .0, first-right rows more k x (n .1) f)
 
+-- the first row that applies is not among rows that do not apply
+pub first-front : (rows more : List Row) (k x : ℕ) → None more → First (rows ++ more) k x → First rows k x
+first-front [] more k x n f = absurd (first-not-none more k x f n)
+first-front (row ∷ rows) more k x n (inl here) = inl here
+first-front (row ∷ rows) more k x n (inr later) = inr (later .0, first-front rows more k x n (later .1))
+
+-- rows at the end exchanged for others that refuse alike
+pub first-after : (rows more fewer : List Row) (k x : ℕ) → (First more k x → First fewer k x) → First (rows ++ more) k x → First (rows ++ fewer) k x
+first-after [] more fewer k x f a = f a
+first-after (row ∷ rows) more fewer k x f (inl here) = inl here
+first-after (row ∷ rows) more fewer k x f (inr later) = inr (later .0, first-after rows more fewer k x f (later .1))
+
 pub none-left : (rows more : List Row) → None (rows ++ more) → None rows
 none-left [] more n = tt
 none-left (row ∷ rows) more n = (n .0, none-left rows more (n .1))

@@ -10,7 +10,7 @@ mod reopen;
 pub mod test;
 mod turn;
 
-// Settles v, the first of its line, if the test gives its own parity, else turns it. The result is the lowest priority at which something may be open.
+// Settles v, the first of its line, if the test gives its own parity, else turns it. Below the result nothing is open.
 pub fn step(
     v: usize,
     owners: &[u8],

@@ -8,7 +8,7 @@ use reach::closure::close;
 use reach::closure::seed;
 ghost use Rattle.step.specs.Turning.{Turnable, TurnedIn};
 
-// The result is the lowest priority at which something may be open.
+// Below the result, a priority, nothing is open.
 pub fn turn(
     n: usize,
     v: usize,
