@@ -1,21 +1,23 @@
--- Settling an open vertex of least priority with the mark of its own parity keeps the invariants.
+-- Settling an eligible vertex with the mark of its own parity keeps the invariants.
 use Prim.Native.Nat.{ℕ, _<_, _≤_}
 use mathlib.Core.Path.{_≡_, sym, ap, _∙_}
 use mathlib.Core.Logic.{_≢_, ⊎-elim}
-use native.Mathlib.Nat.{le-trans, le-antisymm}
+use native.Mathlib.Nat.{le-antisymm}
 use Rattle.player.specs.Player.{parityOf, parity-player}
 use Rattle.game.specs.Game.{Game}
 use Rattle.winning.specs.Walk.{Walk, step, map-walk}
 use Rattle.winning.specs.Cycle.{Low}
-use Rattle.justification.specs.Safe.{Support, Safe, Least}
+use Rattle.justification.specs.Safe.{Support, Safe, Eligible}
 use Rattle.justification.specs.Step.{Tested, Kept}
 use Rattle.justification.proofs.Walks.{upto}
 use Rattle.justification.proofs.Cases.{at-or-else}
-use Rattle.justification.proofs.Lines.{Line, safe-of, within, steady, steady-walk, settled-line, settled-step, same-line, same-step}
+use Rattle.justification.proofs.Lines.{Line, safe-of, steady, steady-walk, settled-line, settled-step, same-line}
+use Rattle.justification.proofs.Eligible.{safe-above}
+use Rattle.justification.proofs.Levels.{kept-step, kept-above}
 
 module _
     (g : Game) (mark move settled mark′ move′ settled′ : ℕ → ℕ) (v m : ℕ)
-    (safe : Safe g mark move settled) (least : Least g mark move settled v)
+    (safe : Safe g mark move settled) (eligible : Eligible g mark move settled v (parityOf (g .priority v)) m)
     (tested : Tested g mark v (parityOf (g .priority v)) m)
     (kept : Kept mark move settled mark′ move′ settled′ g v m)
   where
@@ -34,12 +36,12 @@ module _
     -- no mark changes: v was open, so its mark was its own parity
     marks : (u : ℕ) → u < g .n → mark′ u ≡ mark u
     marks =
-        at-or-else v (λ u. u < g .n → mark′ u ≡ mark u) (λ l. kept .here .marked ∙ sym (safe .default v l (least .unsettled)))
+        at-or-else v (λ u. u < g .n → mark′ u ≡ mark u) (λ l. kept .here .marked ∙ sym (safe .default v l (eligible .unsettled)))
         (λ u d l. kept .elsewhere u l d .marked)
 
     -- a step out of another vertex is an old one
     old : (x y : ℕ) → x ≢ v → New x y → Old x y
-    old x y d s = same-step g mark move settled mark′ move′ settled′ (kept .elsewhere x (s .edge .from) d) s
+    old = kept-step g mark move settled mark′ move′ settled′ v m eligible kept
 
     constant : (x y : ℕ) → New x y → mark′ y ≡ mark′ x
     constant =
@@ -47,19 +49,9 @@ module _
         (λ y s. marks y (s .edge .to) ∙ settled-step g mark move settled mark′ move′ settled′ tested (kept .here) s ∙ sym (kept .here .marked))
         (λ x d y s. marks y (s .edge .to) ∙ steady g mark move settled safe (old x y d s) ∙ sym (marks x (s .edge .from)))
 
-    -- what is open was open
-    was-open : (u : ℕ) → u < g .n → settled′ u ≢ 1 → settled u ≢ 1
-    was-open =
-        at-or-else v (λ u. u < g .n → settled′ u ≢ 1 → settled u ≢ 1) (λ l f. absurd (f (kept .here .flag)))
-        (λ u d l f e. f (kept .elsewhere u l d .flag ∙ e))
-
-    -- a walk to an open vertex is old, or passes v, which is the lowest of the open ones
+    -- what a vertex was above it stays above, so its own priority
     low : (x u : ℕ) → x < g .n → Walk New x u → settled′ u ≢ 1 → g .priority x ≤ g .priority u
-    low x u l w f =
-        let end : u < g .n = within g mark′ move′ settled′ l w in
-        let o : settled u ≢ 1 = was-open u end f in
-        ⊎-elim (λ w. safe .below x u l w o) (λ w. le-trans (safe .below x v l (w .0) (least .unsettled)) (least .least u end o))
-        (upto v old w)
+    low x u l w f = kept-above g mark move settled mark′ move′ settled′ v m eligible kept l (safe-above g mark move settled safe l) .high u w f
 
     -- a closed walk is old, or passes v and has v's priority as its highest
     round : (x y : ℕ) → New x y → Walk (Low g New (g .priority x)) y x → mark′ x ≡ parityOf (g .priority x)
@@ -73,9 +65,9 @@ module _
             ⊎-elim (safe .good x y (old x y d s))
             (λ w.
             let a : Walk Old x v = step (old x y d s) (map-walk (λ a b s. s .taken) (w .0)) in
-            let e : g .priority x ≡ g .priority v = le-antisymm (safe .below x v (s .edge .from) a (least .unsettled)) (w .1 .1 .low) in
-            sym (steady-walk g mark move settled safe a) ∙ safe .default v (least .vertex) (least .unsettled) ∙ ap parityOf (sym e))
-            (upto v (λ a b d s. record { taken = old a b d (s .taken); low = s .low }) w)
+            let e : g .priority x ≡ g .priority v = le-antisymm (safe .below x v (s .edge .from) a (eligible .unsettled)) (w .1) in
+            sym (steady-walk g mark move settled safe a) ∙ safe .default v (eligible .vertex) (eligible .unsettled) ∙ ap parityOf (sym e))
+            (upto v (λ a b d s. record { taken = old a b d (s .taken); low = s .low }) (λ y s w. s .low) w)
 
     pub keeps : Safe g mark′ move′ settled′
     keeps = safe-of g mark′ move′ settled′ line constant low round

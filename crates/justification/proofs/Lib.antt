@@ -1,8 +1,12 @@
 pub mod Cases
 pub mod Walks
 pub mod Lines
+pub mod Eligible
+pub mod Outside
+pub mod Levels
 pub mod KeepStep
 pub mod TurnStep
+pub mod ResetStep
 pub mod Sums
 pub mod Falls
 pub mod Finished

@@ -3,10 +3,9 @@ use Prim.Native.Nat.{ℕ, _<_, _≤_}
 use mathlib.Core.Path.{_≡_, sym, ap, subst, _∙_}
 use mathlib.Core.Logic.{_≢_, Dec·not-not}
 use native.Mathlib.Decide.{ℕ-discrete}
-use native.Mathlib.Nat.{le-refl}
 use Rattle.player.specs.Player.{parityOf}
 use Rattle.game.specs.Game.{Game, Listed, Edge}
-use Rattle.winning.specs.Walk.{Walk, stay, step, follow}
+use Rattle.winning.specs.Walk.{Walk, follow}
 use Rattle.winning.specs.Cycle.{Low}
 use Rattle.winning.specs.Answer.{Recorded, Accepted}
 use Rattle.winning.proofs.Cycles.{cycle-of}
@@ -16,22 +15,18 @@ use Rattle.justification.specs.Safe.{Support, Safe}
 use Rattle.justification.specs.Start.{Agree, Closed, Start}
 use Rattle.justification.proofs.Walks.{carry}
 use Rattle.justification.proofs.Lines.{Line, open-line, safe-of, within}
+use Rattle.justification.proofs.Eligible.{open-above}
 
 -- no support walk leads from a closed set of settled vertices to an open vertex
 pub never-reopened : (g : Game) (mark move settled : ℕ → ℕ) (K : ℕ → Type 0) (v u : ℕ) → Closed g K → ((w : ℕ) → w < g .n → K w → settled w ≡ 1) → v < g .n → settled v ≢ 1 → K u → Walk (Support g mark move settled) u v → ⊥
 never-reopened g mark move settled K v u closed kept l f k w =
     f (kept v l (follow K (λ x y s k. closed x y k (s .edge)) k w))
 
--- from an open vertex no support step leads
-alone : (g : Game) (mark move settled : ℕ → ℕ) {v u : ℕ} → settled v ≢ 1 → Walk (Support g mark move settled) v u → g .priority v ≤ g .priority u
-alone g mark move settled f stay = le-refl _
-alone g mark move settled f (step s w) = absurd (f (s .justified))
-
 pub fresh-safe : (h : Game) (mark move settled : ℕ → ℕ) → ((v : ℕ) → v < h .n → mark v ≡ parityOf (h .priority v)) → ((v : ℕ) → v < h .n → settled v ≢ 1) → Safe h mark move settled
 fresh-safe h mark move settled own unsettled =
     safe-of h mark move settled (λ u l. open-line h mark move settled (unsettled u l) (own u l))
     (λ x y s. absurd (unsettled x (s .edge .from) (s .justified)))
-    (λ v u l w f. alone h mark move settled (unsettled v l) w)
+    (λ v u l w f. open-above h mark move settled (unsettled v l) .high u w f)
     (λ v w s a. own v (s .edge .from))
 
 -- an edge of one game is one of another with the same vertices and successors
@@ -83,7 +78,7 @@ module _
     low : (v u : ℕ) → v < h .n → Walk (Support h mark move settled) v u → settled u ≢ 1 → h .priority v ≤ h .priority u
     low v u l w f = elim (decided v l) [
       | yes k ↦ absurd (never-reopened h mark move settled K u v closed (start .kept-settled) (within h mark move settled l w) f k w)
-      | no k ↦ alone h mark move settled (start .open-settled v l k) w
+      | no k ↦ open-above h mark move settled (start .open-settled v l k) .high u w f
     ]
 
     -- a closed walk of support steps is a cycle by the old recorded moves, and 14 found none that is lost

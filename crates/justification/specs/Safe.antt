@@ -34,8 +34,20 @@ module _ (g : Game) (mark move settled : ℕ → ℕ) where
   abbrev pub Done : Type 0
   Done = (v : ℕ) → v < g .n → settled v ≡ 1
 
-  -- v is open, and no open vertex has a lower priority
-  pub record Least (v : ℕ) : Type 0 where
+  -- support steps lead from v to no open vertex of a priority below k
+  pub record Above (v k : ℕ) : Type 0 where
+    pub high : (u : ℕ) → Walk Support v u → settled u ≢ 1 → k ≤ g .priority u
+
+  -- if v gets the winner p and the move m, its own steps lead to w only where supports stay above k
+  abbrev pub Onward : (v p m k : ℕ) → Type 0
+  Onward v p m k = (w : ℕ) → Edge g v w → (g .owner v ≡ p → w ≡ m) → Above w k
+
+  -- v is open, and may get the winner p and the move m: that leads to no open vertex of a lower priority
+  pub record Eligible (v p m : ℕ) : Type 0 where
     pub vertex : v < g .n
     pub unsettled : settled v ≢ 1
-    pub least : (u : ℕ) → u < g .n → settled u ≢ 1 → g .priority v ≤ g .priority u
+    pub onward : Onward v p m (g .priority v)
+
+  -- each settled vertex has a level: support steps lead from it to no open vertex of a priority below that
+  pub record Levelled (level : ℕ → ℕ) : Type 0 where
+    pub above : (v : ℕ) → v < g .n → settled v ≡ 1 → Above v (level v)

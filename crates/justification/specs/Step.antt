@@ -38,6 +38,16 @@ module _ (mark move settled mark′ move′ settled′ : ℕ → ℕ) where
     pub reopened : (u : ℕ) → u < g .n → u ≢ v → R u → (settled′ u ≢ 1) × (mark′ u ≡ parityOf (g .priority u))
     pub elsewhere : (u : ℕ) → u < g .n → u ≢ v → ¬ R u → Same u
 
+  -- opening a set again: what R holds is open with its own parity's mark, the rest is as before
+  pub record Reset (g : Game) (R : ℕ → Type 0) : Type 0 where
+    pub reopened : (u : ℕ) → u < g .n → R u → (settled′ u ≢ 1) × (mark′ u ≡ parityOf (g .priority u))
+    pub elsewhere : (u : ℕ) → u < g .n → ¬ R u → Same u
+
+-- R holds whatever leans on what it holds
+pub record Downward (g : Game) (mark move settled : ℕ → ℕ) (R : ℕ → Type 0) : Type 0 where
+  pub decided : (u : ℕ) → u < g .n → Dec (R u)
+  pub closed : (u w : ℕ) → Support g mark move settled u w → R w → R u
+
 -- R is the set of vertices from which support steps lead to v, v included
 pub record Leaning (g : Game) (mark move settled : ℕ → ℕ) (v : ℕ) (R : ℕ → Type 0) : Type 0 where
   pub decided : (u : ℕ) → u < g .n → Dec (R u)
