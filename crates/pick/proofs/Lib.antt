@@ -1,7 +1,9 @@
 pub mod Stamps
 pub mod Joining
 pub mod Leaving
-pub mod Picking
-pub mod Passing
 pub mod Storing
+pub mod Entering
 pub mod Lining
+pub mod Picking
+pub mod Dropping
+pub mod Passing

@@ -5,7 +5,8 @@ use mathlib.Core.List.{List}
 use lib.ListN.{length, getD}
 use Rattle.game.specs.Answer.{markOf, moveOf}
 use Rattle.justification.specs.Step.{Same}
-use Rattle.step.specs.State.{settledOf, KeptSet, Carried}
+use Rattle.levels.specs.Levels.{settledOf}
+use Rattle.step.specs.State.{KeptSet, Carried}
 
 module _ {owners priorities starts targets : List ℕ} where
   -- no step

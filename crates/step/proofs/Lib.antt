@@ -3,6 +3,8 @@ pub mod Flags
 pub mod Opens
 pub mod Reopens
 pub mod Turns
+pub mod Settling
 pub mod Supports
 pub mod Carry
 pub mod Steps
+pub mod Least

@@ -12,44 +12,46 @@ use Rattle.game.specs.Answer.{markRoom, markOf, MarkSet}
 use Rattle.reach.specs.Work.{section}
 use Rattle.reach.proofs.Sections.{section-read}
 use Rattle.reach.proofs.Queues.{tail-bounded}
-use Rattle.pick.specs.Lines.{Lines}
-use Rattle.step.specs.Parts.{Opened, FirstsKept, Openable, OpenedIn, Reopenable, Reopened}
-use Rattle.step.proofs.Opens.{firsts-same, firsts-more}
+use Rattle.pick.specs.Lines.{Lines, Covered}
+use Rattle.pick.specs.Moves.{Standable}
+use Rattle.step.specs.Parts.{Opened, OpenedIn, Reopenable, Reopened}
 
--- the first i of the queue are open again, what is not marked is as before, and low is at most `priority`
-pub record Reopening (n : ℕ) (priorities firsts₀ winners₀ work₀ : List ℕ) (priority : ℕ) (firsts lasts winners work : List ℕ) (low i : ℕ) : Type 0 where
-  pub most : low ≤ priority
+-- the first i of the queue are open again, what is not marked is as before, every open vertex waits, and low is at most `from`
+pub record Reopening (n : ℕ) (priorities waiting₀ winners₀ work₀ : List ℕ) (from : ℕ) (firsts lasts waiting winners work : List ℕ) (low i : ℕ) : Type 0 where
+  pub most : low ≤ from
   pub room : markRoom winners ≡ markRoom winners₀
   pub long : length work ≡ length work₀
+  pub waiting-long : length waiting ≡ length waiting₀
   pub passed : (j : ℕ) → j < i → Opened priorities winners (section 0 n work) (getD (section 2 n work₀) j 0)
   pub below : (j : ℕ) → j < i → low ≤ getD priorities (getD (section 2 n work₀) j 0) 0
   pub flag : (u : ℕ) → u < n → getD (section 1 n work₀) u 0 ≢ 1 → getD (section 0 n work) u 0 ≡ getD (section 0 n work₀) u 0
   pub mark : (u : ℕ) → u < n → getD (section 1 n work₀) u 0 ≢ 1 → markOf winners u ≡ markOf winners₀ u
   pub marks : section 1 n work ≡ section 1 n work₀
   pub queue : section 2 n work ≡ section 2 n work₀
-  pub lines : Lines n priorities (section 0 n work) firsts lasts (section 3 n work)
-  pub firsts-kept : FirstsKept firsts₀ firsts
+  pub lines : Lines n priorities waiting firsts lasts (section 3 n work)
+  pub covered : Covered n (section 0 n work) waiting
 
-module _ {n : ℕ} {priorities firsts₀ lasts₀ winners₀ work₀ : List ℕ} {tail priority : ℕ} (p : Reopenable n priorities firsts₀ lasts₀ winners₀ work₀ tail) where
-  pub reopening-none : Reopening n priorities firsts₀ winners₀ work₀ priority firsts₀ lasts₀ winners₀ work₀ priority 0
+module _ {n : ℕ} {priorities firsts₀ lasts₀ waiting₀ winners₀ work₀ : List ℕ} {tail from : ℕ} (p : Reopenable n priorities firsts₀ lasts₀ waiting₀ winners₀ work₀ tail) where
+  pub reopening-none : Reopening n priorities waiting₀ winners₀ work₀ from firsts₀ lasts₀ waiting₀ winners₀ work₀ from 0
   reopening-none =
       record {
         most = omega arith;
         room = refl;
         long = refl;
+        waiting-long = refl;
         passed = λ j l. absurd (not-suc-le-zero l);
         below = λ j l. absurd (not-suc-le-zero l);
         flag = λ u l ne. refl;
         mark = λ u l ne. refl;
         marks = refl;
         queue = refl;
-        lines = p .lines;
-        firsts-kept = firsts-same;
+        lines = p .standing .lines;
+        covered = p .covered;
       }
 
-  module _ {firsts lasts winners work : List ℕ} {low i : ℕ} (r : Reopening n priorities firsts₀ winners₀ work₀ priority firsts lasts winners work low i) where
+  module _ {firsts lasts waiting winners work : List ℕ} {low i : ℕ} (r : Reopening n priorities waiting₀ winners₀ work₀ from firsts lasts waiting winners work low i) where
     long : length work ≡ 4 * n
-    long = r .long ∙ p .work-long
+    long = r .long ∙ p .standing .work-long
 
     -- the cell that is read is the queue's place i, and a vertex stands there
     is : i < tail → getD work (2 * n + i) 0 ≡ getD (section 2 n work₀) i 0
@@ -61,23 +63,28 @@ module _ {n : ℕ} {priorities firsts₀ lasts₀ winners₀ work₀ : List ℕ}
     marked : i < tail → getD (section 1 n work₀) (getD work (2 * n + i) 0) 0 ≡ 1
     marked l = ap (λ (v : ℕ). getD (section 1 n work₀) v 0) (is l) ∙ p .queued .marked i l
 
-    pub reopening-openable : i < tail → Openable n (getD work (2 * n + i) 0) priorities firsts lasts work
-    reopening-openable l =
+    pub reopening-standable : i < tail → Standable n (getD work (2 * n + i) 0) priorities firsts lasts waiting work
+    reopening-standable l =
         record {
-          small = p .small;
+          standing =
+              record {
+                small = p .standing .small;
+                priorities-long = p .standing .priorities-long;
+                bytes = p .standing .bytes;
+                waiting-long = omega (arith, r .waiting-long, p .standing .waiting-long);
+                work-long = long;
+                lines = r .lines;
+              };
           vertex = reopening-vertex l;
-          level = p .level;
-          byte = p .bytes _ (reopening-vertex l);
-          work-long = long;
-          lines = r .lines;
         }
 
-    pub reopening-more : {firsts′ lasts′ winners′ work′ : List ℕ} {q low′ : ℕ} (u : ℕ) → i < tail → u ≡ getD work (2 * n + i) 0 → q ≡ parityOf (getD priorities u 0) → MarkSet winners winners′ u q → OpenedIn n u priorities firsts work firsts′ lasts′ work′ → low′ ≤ low → low′ ≤ getD priorities u 0 → Reopening n priorities firsts₀ winners₀ work₀ priority firsts′ lasts′ winners′ work′ low′ (i + 1)
-    reopening-more {firsts′} {lasts′} {winners′} {work′} {q} {low′} u l eu eq m f before here =
+    pub reopening-more : {firsts′ lasts′ waiting′ winners′ work′ : List ℕ} {q low′ : ℕ} (u : ℕ) → i < tail → u ≡ getD work (2 * n + i) 0 → q ≡ parityOf (getD priorities u 0) → MarkSet winners winners′ u q → OpenedIn n u priorities waiting work firsts′ lasts′ waiting′ work′ → low′ ≤ low → low′ ≤ getD priorities u 0 → Reopening n priorities waiting₀ winners₀ work₀ from firsts′ lasts′ waiting′ winners′ work′ low′ (i + 1)
+    reopening-more {firsts′} {lasts′} {waiting′} {winners′} {work′} {q} {low′} u l eu eq m f before here =
         record {
           most = omega (arith, r .most);
           room = m .room ∙ r .room;
           long = f .long ∙ r .long;
+          waiting-long = f .waiting-long ∙ r .waiting-long;
           passed = λ j h. at j h (ℕ-discrete (getD (section 2 n work₀) j 0) u);
           below = λ j h. elim (ℕ-discrete j i) [ yes e ↦ subst (λ (k : ℕ). low′ ≤ getD priorities k 0) (eu ∙ is l ∙ ap (λ (k : ℕ). getD (section 2 n work₀) k 0) (sym e)) here | no ne ↦ omega (arith, r .below j (omega arith)) ];
           flag = λ w h ne. f .other w (apart w ne) ∙ r .flag w h ne;
@@ -85,7 +92,7 @@ module _ {n : ℕ} {priorities firsts₀ lasts₀ winners₀ work₀ : List ℕ}
           marks = f .marks ∙ r .marks;
           queue = f .queue ∙ r .queue;
           lines = f .lines;
-          firsts-kept = firsts-more (r .firsts-kept) (f .firsts-kept);
+          covered = record { waits = λ w h o. waits w h o (ℕ-discrete w u) };
         }
       where
         apart : (w : ℕ) → getD (section 1 n work₀) w 0 ≢ 1 → w ≢ u
@@ -101,12 +108,17 @@ module _ {n : ℕ} {priorities firsts₀ lasts₀ winners₀ work₀ : List ℕ}
             let o = r .passed j (omega arith) in
             record { flag = λ z. o .flag (sym (f .other _ ne) ∙ z); mark = m .other _ ne ∙ o .mark }
 
-    pub reopening-all : tail ≤ i → Reopened n priorities firsts₀ winners₀ work₀ priority firsts lasts winners work low
+        waits : (w : ℕ) → w < n → getD (section 0 n work′) w 0 ≢ 0 → Dec (w ≡ u) → getD waiting′ w 0 ≢ 0
+        waits w h o (yes e) = subst (λ (k : ℕ). getD waiting′ k 0 ≢ 0) (sym e) (f .waits)
+        waits w h o (no ne) = λ z. r .covered .waits w h (λ y. o (f .other w ne ∙ y)) (sym (f .waits-other w ne) ∙ z)
+
+    pub reopening-all : tail ≤ i → Reopened n priorities waiting₀ winners₀ work₀ from firsts lasts waiting winners work low
     reopening-all l =
         record {
           most = r .most;
           room = r .room;
           long = r .long;
+          waiting-long = r .waiting-long;
           reopened =
               λ u h one.
               let q = p .queued .place u h one in
@@ -120,5 +132,5 @@ module _ {n : ℕ} {priorities firsts₀ lasts₀ winners₀ work₀ : List ℕ}
           marks = r .marks;
           queue = r .queue;
           lines = r .lines;
-          firsts-kept = r .firsts-kept;
+          covered = r .covered;
         }

@@ -14,21 +14,9 @@ use Rattle.justification.specs.Step.{Leaning}
 use Rattle.reach.specs.Lists.{EdgesOf}
 use Rattle.reach.specs.Closure.{Allowed}
 use Rattle.reach.specs.Work.{section}
-use Rattle.step.specs.State.{settledOf}
+use Rattle.levels.specs.Levels.{settledOf}
+use Rattle.levels.proofs.Flags.{flag-settled, settled-flag}
 use Rattle.step.specs.Turning.{Reached}
-
--- settled is flag 0
-pub flag-settled : (n : ℕ) (work : List ℕ) (u : ℕ) → getD (section 0 n work) u 0 ≡ 0 → settledOf n work u ≡ 1
-unfolding settledOf
-flag-settled n work u e = omega arith
-
-pub settled-flag : (n : ℕ) (work : List ℕ) (u : ℕ) → settledOf n work u ≡ 1 → getD (section 0 n work) u 0 ≡ 0
-unfolding settledOf
-settled-flag n work u e = omega arith
-
-pub same-settled : (n : ℕ) (work work′ : List ℕ) (u : ℕ) → getD (section 0 n work′) u 0 ≡ getD (section 0 n work) u 0 → settledOf n work′ u ≡ settledOf n work u
-unfolding settledOf
-same-settled n work work′ u e = omega arith
 
 module _
     (owners priorities starts targets winners moves work sources : List ℕ)

@@ -1,5 +1,5 @@
 -- The state of the engine, read from the lent lists, and sets of settled vertices that nothing reopens.
-use Prim.Native.Nat.{ℕ, _-_, _*_, _<_}
+use Prim.Native.Nat.{ℕ, _*_, _<_}
 use mathlib.Core.Path.{_≡_}
 use mathlib.Core.List.{List}
 use lib.ListN.{length, getD}
@@ -9,10 +9,7 @@ use Rattle.justification.specs.Safe.{Safe}
 use Rattle.justification.specs.Start.{Closed}
 use Rattle.reach.specs.Work.{section}
 use Rattle.reach.specs.Lists.{Filled}
-
--- a vertex is settled where its flag, in section 0 of the work space, is 0
-unfoldable pub settledOf : ℕ → List ℕ → ℕ → ℕ
-settledOf n work v = 1 - getD (section 0 n work) v 0
+use Rattle.levels.specs.Levels.{settledOf}
 
 module _ (owners priorities starts targets winners moves work : List ℕ) where
   -- a safe state of a well-formed game in lists of the right lengths, nothing marked for a closure

@@ -1,17 +1,66 @@
-// One step of the method: the test of an open vertex of least priority, and its settling or turning.
+// One step of the method: an open vertex gets a line and is settled with it, or turned to the opponent.
 use crate::keep::keep;
+use crate::test::Line;
 use crate::test::test;
 use crate::turn::turn;
 use player::Player;
-ghost use Rattle.step.specs.Stepping.{Steppable, Stepped};
+ghost use lib.ListN.{length};
+ghost use Rattle.step.specs.Turning.{Turnable, SteppedIn};
+ghost use Rattle.step.specs.Stepping.{LeastSteppable, LeastStepped};
 
 mod keep;
-mod reopen;
+pub mod reopen;
 pub mod test;
 mod turn;
 
-// Settles v, the first of its line, if the test gives its own parity, else turns it. Below the result nothing is open.
+// v, which is open, gets the line. If nothing below `low` is open before, nothing below the result is afterwards.
 pub fn step(
+    v: usize,
+    line: Line,
+    low: usize,
+    priorities: &[u8],
+    targets: &[u16],
+    heads: &[u16],
+    nexts: &[u16],
+    sources: &[u16],
+    firsts: &mut [u16],
+    lasts: &mut [u16],
+    waiting: &mut [u16],
+    levels: &mut [u16],
+    winners: &mut [u8],
+    moves: &mut [u16],
+    work: &mut [u16],
+) -> usize
+    requires { ⌜ Turnable (length (now priorities)) v (now priorities) (now targets) (now heads) (now nexts) (now sources) (now firsts) (now lasts) (now waiting) (now levels) (now winners) (now moves) (now work) ⌝ }
+    ensures { λ r. ⌜ SteppedIn (length (now (priorities .entry))) v (line .winner) (line .to) (line .level) low (now (priorities .entry)) (now (targets .entry)) (now (sources .entry)) (now (firsts .entry)) (now (lasts .entry)) (now (waiting .entry)) (now (levels .entry)) (now (winners .entry)) (now (moves .entry)) (now (work .entry)) (now (firsts .exit)) (now (lasts .exit)) (now (waiting .exit)) (now (levels .exit)) (now (winners .exit)) (now (moves .exit)) (now (work .exit)) r ⌝ }
+{
+    let own = priorities[v];
+    if line.winner == Player::of_priority(own).bit {
+        keep(v, line, levels, moves, work);
+        return low;
+    }
+    turn(
+        priorities.len(),
+        v,
+        line,
+        low,
+        priorities,
+        targets,
+        heads,
+        nexts,
+        sources,
+        firsts,
+        lasts,
+        waiting,
+        levels,
+        winners,
+        moves,
+        work,
+    )
+}
+
+// An open vertex of least priority gets the line that the test gives: it is always eligible. Below the result nothing is open.
+pub fn step_least(
     v: usize,
     owners: &[u8],
     priorities: &[u8],
@@ -22,23 +71,20 @@ pub fn step(
     sources: &[u16],
     firsts: &mut [u16],
     lasts: &mut [u16],
+    waiting: &mut [u16],
+    levels: &mut [u16],
     winners: &mut [u8],
     moves: &mut [u16],
     work: &mut [u16],
 ) -> usize
-    requires { ⌜ Steppable v (now owners) (now priorities) (now starts) (now targets) (now heads) (now nexts) (now sources) (now firsts) (now lasts) (now winners) (now moves) (now work) ⌝ }
-    ensures { λ r. ⌜ Stepped r (now (owners .entry)) (now (priorities .entry)) (now (starts .entry)) (now (targets .entry)) (now (heads .entry)) (now (nexts .entry)) (now (sources .entry)) (now (winners .entry)) (now (moves .entry)) (now (work .entry)) (now (firsts .exit)) (now (lasts .exit)) (now (winners .exit)) (now (moves .exit)) (now (work .exit)) ⌝ }
+    requires { ⌜ LeastSteppable v (now owners) (now priorities) (now starts) (now targets) (now heads) (now nexts) (now sources) (now firsts) (now lasts) (now waiting) (now levels) (now winners) (now moves) (now work) ⌝ }
+    ensures { λ r. ⌜ LeastStepped (now (owners .entry)) (now (priorities .entry)) (now (starts .entry)) (now (targets .entry)) (now (heads .entry)) (now (nexts .entry)) (now (sources .entry)) (now (winners .entry)) (now (moves .entry)) (now (work .entry)) (now (firsts .exit)) (now (lasts .exit)) (now (waiting .exit)) (now (levels .exit)) (now (winners .exit)) (now (moves .exit)) (now (work .exit)) r ⌝ }
 {
     let line = test(v, owners, priorities, starts, targets, winners);
-    let own = priorities[v];
-    if line.winner == Player::of_priority(own).bit {
-        keep(v, line.to, own as usize, firsts, moves, work);
-        return own as usize;
-    }
-    turn(
-        owners.len(),
+    step(
         v,
         line,
+        priorities[v] as usize,
         priorities,
         targets,
         heads,
@@ -46,6 +92,8 @@ pub fn step(
         sources,
         firsts,
         lasts,
+        waiting,
+        levels,
         winners,
         moves,
         work,

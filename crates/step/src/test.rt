@@ -3,14 +3,18 @@ use game::vertex::Choice;
 use game::vertex::successors;
 use game::vertex::test_vertex;
 use player::Player;
+ghost use mathlib.Core.Path.{_≡_};
+ghost use lib.ListN.{getD};
 ghost use Rattle.step.specs.Parts.{Testable, TestedBy};
 
-// Who wins the vertex by the test, and his move; 65,535 where he does not own it.
+// A line that a vertex may get: who wins it, his move, 65,535 where he does not own it, and a level.
 pub struct Line {
     pub winner: u8,
     pub to: u16,
+    pub level: u16,
 }
 
+// The line that the test gives, with the vertex's own priority as its level.
 pub fn test(
     v: usize,
     owners: &[u8],
@@ -20,20 +24,24 @@ pub fn test(
     winners: &[u8],
 ) -> Line
     requires { ⌜ Testable v (now owners) (now priorities) (now starts) (now targets) (now winners) ⌝ }
-    ensures { λ r. ⌜ TestedBy v (now (owners .entry)) (now (priorities .entry)) (now (starts .entry)) (now (targets .entry)) (now (winners .entry)) (r .winner) (r .to) ⌝ }
+    ensures tested { λ r. ⌜ TestedBy v (now (owners .entry)) (now (priorities .entry)) (now (starts .entry)) (now (targets .entry)) (now (winners .entry)) (r .winner) (r .to) ⌝ }
+    ensures level { λ r. ⌜ r .level ≡ getD (now (priorities .entry)) v 0 ⌝ }
 {
     let bit = owners[v];
     let owner = Player { bit };
+    let level = priorities[v] as u16;
     let choice = test_vertex(owner, successors(starts, targets, v), winners);
     if let Choice::To(w) = choice {
         return Line {
             winner: owner.bit,
             to: w,
+            level,
         };
     }
     let other = owner.opponent();
     Line {
         winner: other.bit,
         to: 65535,
+        level,
     }
 }

@@ -8,11 +8,12 @@ use reach::closure::close;
 use reach::closure::seed;
 ghost use Rattle.step.specs.Turning.{Turnable, TurnedIn};
 
-// Below the result, a priority, nothing is open.
+// If nothing below `low` is open before, nothing below the result is afterwards.
 pub fn turn(
     n: usize,
     v: usize,
     line: Line,
+    low: usize,
     priorities: &[u8],
     targets: &[u16],
     heads: &[u16],
@@ -20,19 +21,30 @@ pub fn turn(
     sources: &[u16],
     firsts: &mut [u16],
     lasts: &mut [u16],
+    waiting: &mut [u16],
+    levels: &mut [u16],
     winners: &mut [u8],
     moves: &mut [u16],
     work: &mut [u16],
 ) -> usize
-    requires { ⌜ Turnable n v (now priorities) (now targets) (now heads) (now nexts) (now sources) (now firsts) (now lasts) (now winners) (now moves) (now work) ⌝ }
-    ensures { λ r. ⌜ TurnedIn n v (line .winner) (line .to) (now (priorities .entry)) (now (targets .entry)) (now (sources .entry)) (now (winners .entry)) (now (moves .entry)) (now (work .entry)) (now (firsts .exit)) (now (lasts .exit)) (now (winners .exit)) (now (moves .exit)) (now (work .exit)) r ⌝ }
+    requires { ⌜ Turnable n v (now priorities) (now targets) (now heads) (now nexts) (now sources) (now firsts) (now lasts) (now waiting) (now levels) (now winners) (now moves) (now work) ⌝ }
+    ensures { λ r. ⌜ TurnedIn n v (line .winner) (line .to) (line .level) low (now (priorities .entry)) (now (targets .entry)) (now (sources .entry)) (now (levels .entry)) (now (winners .entry)) (now (moves .entry)) (now (work .entry)) (now (firsts .exit)) (now (lasts .exit)) (now (waiting .exit)) (now (levels .exit)) (now (winners .exit)) (now (moves .exit)) (now (work .exit)) r ⌝ }
 {
-    let own = priorities[v] as usize;
     let one = seed(n, v, work, 0);
     let tail = close(n, targets, heads, nexts, sources, 0, moves, work, one);
-    let low = reopen(n, priorities, firsts, lasts, winners, work, tail, own);
+    let least = reopen(
+        n,
+        priorities,
+        firsts,
+        lasts,
+        waiting,
+        winners,
+        work,
+        tail,
+        low,
+    );
     clear(n, work, tail);
     set_mark(winners, v, line.winner);
-    keep(v, line.to, own, firsts, moves, work);
-    low
+    keep(v, line, levels, moves, work);
+    least
 }

@@ -1,15 +1,15 @@
--- `step::keep::keep` meets its contract: the line that is left, the move that is recorded, and the law of a store into the flags (Flags).
+-- `step::keep::keep` meets its contract: the move and the level that are recorded, and the law of a store into the flags (Flags).
 -- Assumes nothing.
 use Rattle.step.proofs.Flags.{flag-set}
 use borrow.Author.Needs.{needs}
 use Rattle.step.proofs.keep.keep.Statement.{statement}
 use Rattle.step.proofs.keep.keep.Tie as tie
 
-leave-requires : tie.Need-leave-requires
-leave-requires c κs = search needs
-
 record-move-requires : tie.Need-record-move-requires
 record-move-requires c κs = search needs
+
+set-level-requires : tie.Need-set-level-requires
+set-level-requires c κs = search needs
 
 mul-work : tie.Need-mul-work
 mul-work c = search needs
@@ -27,14 +27,14 @@ same-length-3 : tie.Need-same-length-3
 same-length-3 c = search needs
 
 returns : tie.Need-returns
-returns c = let p = c .before .before .before .before .before .before .before .before .before .before .before .before .pre in (c .before .before .record-move .ensures, (c .before .before .before .before .before .before .leave .ensures, flag-set (p .work-long) (p .vertex)))
+returns c = (c .before .before .before .before .before .before .record-move .ensures, (c .before .before .set-level .ensures, flag-set (c .before .before .before .before .before .before .before .before .before .before .before .pre .work-long) (c .before .before .before .before .before .before .before .before .before .before .before .pre .vertex)))
 
 pub keep-spec : {M : Type 1} → statement M
 keep-spec =
     tie.close
     (tie.spec
-    leave-requires
     record-move-requires
+    set-level-requires
     mul-work
     slice-write-work
     same-length

@@ -1,28 +1,12 @@
--- `step::reopen::open_again` meets its contract: the vertex waits already, or it joins its line and its flag is set (Opens).
+-- `step::reopen::open_again` meets its contract: the vertex stands in its line, and its flag is set (Opens).
 -- Assumes nothing.
-use native.Mathlib.Omega.{arith}
-use Rattle.step.proofs.Opens.{opened-already, opening-joinable, opened-now}
+use Rattle.step.proofs.Opens.{opened}
 use borrow.Author.Needs.{needs}
 use Rattle.step.proofs.reopen.open_again.Statement.{statement}
 use Rattle.step.proofs.reopen.open_again.Tie as tie
 
-mul-if1 : tie.Need-mul-if1
-mul-if1 c = search needs
-
-slice-read-if1 : tie.Need-slice-read-if1
-slice-read-if1 c = search needs
-
-returns : tie.Need-returns
-returns c = opened-already (c .before .before .before .before .before .before .pre) (c .if1 .taken)
-
-shared-slice-read-join : tie.Need-shared-slice-read-join
-shared-slice-read-join c = search needs
-
-cast-join : tie.Need-cast-join
-cast-join c = omega (arith, c .shared-slice-known2 .given (c .before .before .before .before .before .before .before .args .u))
-
-join-requires : tie.Need-join-requires
-join-requires c κs = opening-joinable (c .before .before .before .before .before .before .before .before .before .before .pre) (c .before .before .before .before .if1 .left)
+stand-requires : tie.Need-stand-requires
+stand-requires c κs = search needs
 
 mul-work : tie.Need-mul-work
 mul-work c = search needs
@@ -39,22 +23,21 @@ same-length-2 c = search needs
 same-length-3 : tie.Need-same-length-3
 same-length-3 c = search needs
 
-returns-2 : tie.Need-returns-2
-returns-2 c = opened-now (c .before .before .before .before .before .before .before .before .before .before .before .before .before .before .before .before .before .pre) (c .before .before .before .before .before .before .before .before .before .before .before .if1 .left) (c .before .before .before .before .before .before .join .ensures)
+same-length-4 : tie.Need-same-length-4
+same-length-4 c = search needs
+
+returns : tie.Need-returns
+returns c = opened (c .before .before .before .before .before .before .before .before .before .before .before .before .before .before .before .before .before .before .pre) (c .before .before .before .before .before .before .before .before .stand .ensures)
 
 pub open-again-spec : {M : Type 1} → statement M
 open-again-spec =
     tie.close
     (tie.spec
-    mul-if1
-    slice-read-if1
-    returns
-    shared-slice-read-join
-    cast-join
-    join-requires
+    stand-requires
     mul-work
     slice-write-work
     same-length
     same-length-2
     same-length-3
-    returns-2)
+    same-length-4
+    returns)

@@ -1,0 +1,80 @@
+// Attracting until the pile is empty, under a budget.
+use crate::draw::visit;
+use crate::pile::Pile;
+ghost use Prim.Native.Nat.{_≤_};
+ghost use Rattle.attract.specs.Drawing.{Drainable, Drawn};
+
+// What is left of the budget, and a priority from which on nothing has been settled.
+pub struct Left {
+    pub budget: usize,
+    pub top: usize,
+}
+
+// Visits the pile's vertices, the last first, until it is empty or the budget, one a visit, is spent.
+pub fn drain(
+    tail: usize,
+    low: u16,
+    budget: usize,
+    owners: &[u8],
+    priorities: &[u8],
+    starts: &[u16],
+    targets: &[u16],
+    heads: &[u16],
+    nexts: &[u16],
+    sources: &[u16],
+    firsts: &mut [u16],
+    lasts: &mut [u16],
+    waiting: &mut [u16],
+    levels: &mut [u16],
+    stack: &mut [u16],
+    winners: &mut [u8],
+    moves: &mut [u16],
+    work: &mut [u16],
+) -> Left
+    requires { ⌜ Drainable tail (now owners) (now priorities) (now starts) (now targets) (now heads) (now nexts) (now sources) (now firsts) (now lasts) (now waiting) (now levels) (now stack) (now winners) (now moves) (now work) ⌝ }
+    ensures left { λ r. ⌜ r .budget ≤ budget ⌝ }
+    ensures moved { λ r. ⌜ Drawn 0 (now (owners .entry)) (now (priorities .entry)) (now (starts .entry)) (now (targets .entry)) (now (heads .entry)) (now (nexts .entry)) (now (sources .entry)) (now (winners .entry)) (now (moves .entry)) (now (work .entry)) (now (firsts .exit)) (now (lasts .exit)) (now (waiting .exit)) (now (levels .exit)) (now (stack .exit)) (now (winners .exit)) (now (moves .exit)) (now (work .exit)) ⌝ }
+{
+    let mut pile = Pile { tail, top: 0 };
+    let mut left = budget;
+    while 0 < left {
+        let end = pile.tail;
+        if end == 0 {
+            return Left {
+                budget: left,
+                top: pile.top,
+            };
+        }
+        let last = end - 1;
+        let u = stack[last] as usize;
+        let rest = Pile {
+            tail: last,
+            top: pile.top,
+        };
+        pile = visit(
+            u,
+            low,
+            rest,
+            owners,
+            priorities,
+            starts,
+            targets,
+            heads,
+            nexts,
+            sources,
+            firsts,
+            lasts,
+            waiting,
+            levels,
+            stack,
+            winners,
+            moves,
+            work,
+        );
+        left -= 1;
+    }
+    Left {
+        budget: 0,
+        top: pile.top,
+    }
+}

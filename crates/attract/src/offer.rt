@@ -1,0 +1,116 @@
+// The line that an open vertex can get through one of its successors.
+use game::answer::mark;
+use game::vertex::successors;
+use game::vertex::wide;
+use levels::floor;
+use step::test::Line;
+ghost use Prim.Native.Nat.{_≤_};
+ghost use Rattle.attract.specs.Offering.{AllSeen, AllFor, Offerable, Offers};
+
+// A line, or none for now.
+pub enum Offer {
+    Gets(Line),
+    Nothing,
+}
+
+// The least floor of some vertices that are all marked for one player and not below a bound.
+pub enum Ground {
+    Level(u16),
+    None,
+}
+
+fn lesser(a: u16, b: u16) -> u16
+    ensures { λ r. ⌜ (r ≤ a) × (r ≤ b) ⌝ }
+{
+    if a < b { a } else { b }
+}
+
+// Whether all vertices of a stretch have the mark of `winner` and a floor that is not below `bound`.
+fn all_for(
+    winner: u8,
+    bound: u16,
+    stretch: &[u16],
+    priorities: &[u8],
+    levels: &[u16],
+    winners: &[u8],
+    work: &[u16],
+) -> Ground
+    requires { ⌜ AllSeen (now stretch) (now priorities) (now levels) (now winners) (now work) ⌝ }
+    ensures { λ r. ⌜ AllFor winner bound (now (stretch .entry)) (now (priorities .entry)) (now (levels .entry)) (now (winners .entry)) (now (work .entry)) r ⌝ }
+{
+    let mut least: u16 = 65535;
+    let mut i = 0;
+    while i < stretch.len() {
+        let t = wide(stretch[i]);
+        if mark(winners, t) != winner {
+            return Ground::None;
+        }
+        let level = floor(t, priorities, levels, work);
+        if level < bound {
+            return Ground::None;
+        }
+        least = lesser(least, level);
+        i += 1;
+    }
+    Ground::Level(least)
+}
+
+// The larger of a priority and a bound.
+fn at_least(priority: u8, low: u16) -> u16
+    ensures { λ r. ⌜ (priority ≤ r) × (low ≤ r) ⌝ }
+{
+    let own = priority as u16;
+    if own < low { low } else { own }
+}
+
+// The line that x can get through u: its owner moves there if he is u's winner; else all of x's successors must be marked as u is. Nothing
+// below x's own priority and `low` may be leaned on.
+pub fn offer(
+    x: usize,
+    u: usize,
+    low: u16,
+    owners: &[u8],
+    priorities: &[u8],
+    starts: &[u16],
+    targets: &[u16],
+    levels: &[u16],
+    winners: &[u8],
+    work: &[u16],
+) -> Offer
+    requires { ⌜ Offerable x u (now owners) (now priorities) (now starts) (now targets) (now levels) (now winners) (now work) ⌝ }
+    ensures { λ r. ⌜ Offers x (now (owners .entry)) (now (priorities .entry)) (now (starts .entry)) (now (targets .entry)) (now (levels .entry)) (now (winners .entry)) (now (work .entry)) r ⌝ }
+{
+    if work[x] == 0 {
+        return Offer::Nothing;
+    }
+    let bound = at_least(priorities[x], low);
+    let winner = mark(winners, u);
+    if owners[x] == winner {
+        let level = floor(u, priorities, levels, work);
+        if level < bound {
+            return Offer::Nothing;
+        }
+        return Offer::Gets(Line {
+            winner,
+            to: u as u16,
+            level,
+        });
+    }
+    let ground = all_for(
+        winner,
+        bound,
+        successors(starts, targets, x),
+        priorities,
+        levels,
+        winners,
+        work,
+    );
+    let Ground::Level(level) = ground else {
+        return Offer::Nothing;
+    };
+    Offer::Gets(Line {
+        winner,
+        to: 65535,
+        level,
+    })
+}

@@ -1,0 +1,163 @@
+// Attraction, from the highest priority down; where it comes to a stand an open vertex of least priority is tested.
+use crate::Ended;
+use attract::drain::Left;
+use attract::drain::drain;
+use attract::pile::larger;
+use attract::pile::push;
+use attract::sweep::sweep;
+use pick::Picked;
+use pick::pick;
+use step::step_least;
+ghost use Prim.Native.Nat.{_<_, _≤_};
+ghost use Rattle.attract.specs.Drawing.{Drainable, Drawn};
+ghost use Rattle.orders.specs.Ending.{Probable, Ran};
+
+fn one_less(budget: usize) -> usize
+    ensures { λ r. ⌜ (r ≤ budget) × (0 < budget → r < budget) ⌝ }
+{
+    if budget == 0 { 0 } else { budget - 1 }
+}
+
+// Tests v, an open vertex of least priority, and attracts from it; the test costs one.
+fn probe(
+    v: usize,
+    budget: usize,
+    owners: &[u8],
+    priorities: &[u8],
+    starts: &[u16],
+    targets: &[u16],
+    heads: &[u16],
+    nexts: &[u16],
+    sources: &[u16],
+    firsts: &mut [u16],
+    lasts: &mut [u16],
+    waiting: &mut [u16],
+    levels: &mut [u16],
+    stack: &mut [u16],
+    winners: &mut [u8],
+    moves: &mut [u16],
+    work: &mut [u16],
+) -> Left
+    requires { ⌜ Probable v (now owners) (now priorities) (now starts) (now targets) (now heads) (now nexts) (now sources) (now firsts) (now lasts) (now waiting) (now levels) (now stack) (now winners) (now moves) (now work) ⌝ }
+    ensures left { λ r. ⌜ (r .budget ≤ budget) × (0 < budget → r .budget < budget) ⌝ }
+    ensures moved { λ r. ⌜ Drawn 0 (now (owners .entry)) (now (priorities .entry)) (now (starts .entry)) (now (targets .entry)) (now (heads .entry)) (now (nexts .entry)) (now (sources .entry)) (now (winners .entry)) (now (moves .entry)) (now (work .entry)) (now (firsts .exit)) (now (lasts .exit)) (now (waiting .exit)) (now (levels .exit)) (now (stack .exit)) (now (winners .exit)) (now (moves .exit)) (now (work .exit)) ⌝ }
+{
+    let above = priorities[v] as usize + 1;
+    step_least(
+        v,
+        owners,
+        priorities,
+        starts,
+        targets,
+        heads,
+        nexts,
+        sources,
+        firsts,
+        lasts,
+        waiting,
+        levels,
+        winners,
+        moves,
+        work,
+    );
+    let tail = push(v, stack, 0);
+    let drained = drain(
+        tail,
+        0,
+        one_less(budget),
+        owners,
+        priorities,
+        starts,
+        targets,
+        heads,
+        nexts,
+        sources,
+        firsts,
+        lasts,
+        waiting,
+        levels,
+        stack,
+        winners,
+        moves,
+        work,
+    );
+    Left {
+        budget: drained.budget,
+        top: larger(drained.top, above),
+    }
+}
+
+// Attracts until nothing is open or the budget, one a test and one a visit, is spent.
+pub fn attraction(
+    budget: usize,
+    owners: &[u8],
+    priorities: &[u8],
+    starts: &[u16],
+    targets: &[u16],
+    heads: &[u16],
+    nexts: &[u16],
+    sources: &[u16],
+    firsts: &mut [u16],
+    lasts: &mut [u16],
+    waiting: &mut [u16],
+    levels: &mut [u16],
+    stack: &mut [u16],
+    winners: &mut [u8],
+    moves: &mut [u16],
+    work: &mut [u16],
+) -> Ended
+    requires { ⌜ Drainable 0 (now owners) (now priorities) (now starts) (now targets) (now heads) (now nexts) (now sources) (now firsts) (now lasts) (now waiting) (now levels) (now stack) (now winners) (now moves) (now work) ⌝ }
+    ensures { λ r. ⌜ Ran (now (owners .entry)) (now (priorities .entry)) (now (starts .entry)) (now (targets .entry)) (now (heads .entry)) (now (nexts .entry)) (now (sources .entry)) (now (winners .entry)) (now (moves .entry)) (now (work .entry)) (now (firsts .exit)) (now (lasts .exit)) (now (waiting .exit)) (now (levels .exit)) (now (winners .exit)) (now (moves .exit)) (now (work .exit)) r ⌝ }
+{
+    let n = owners.len();
+    let mut top: usize = 256;
+    let mut left = budget;
+    while 0 < left {
+        let swept = sweep(
+            top,
+            left,
+            owners,
+            priorities,
+            starts,
+            targets,
+            heads,
+            nexts,
+            sources,
+            firsts,
+            lasts,
+            waiting,
+            levels,
+            stack,
+            winners,
+            moves,
+            work,
+        );
+        let picked = pick(n, 0, firsts, waiting, work);
+        let Picked::At(v) = picked else {
+            return Ended::Done;
+        };
+        let rest = swept.budget;
+        let drained = probe(
+            v,
+            rest,
+            owners,
+            priorities,
+            starts,
+            targets,
+            heads,
+            nexts,
+            sources,
+            firsts,
+            lasts,
+            waiting,
+            levels,
+            stack,
+            winners,
+            moves,
+            work,
+        );
+        top = larger(swept.top, drained.top);
+        left = drained.budget;
+    }
+    Ended::Spent
+}

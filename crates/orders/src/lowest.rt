@@ -1,0 +1,59 @@
+// Lowest first: again and again an open vertex of least priority.
+use crate::Ended;
+use pick::Picked;
+use pick::pick;
+use step::step_least;
+ghost use Rattle.step.specs.Stepping.{Engine};
+ghost use Rattle.orders.specs.Ending.{Ran, Fell};
+
+// Steps until nothing is open or the budget, one a step, is spent.
+pub fn lowest(
+    budget: usize,
+    owners: &[u8],
+    priorities: &[u8],
+    starts: &[u16],
+    targets: &[u16],
+    heads: &[u16],
+    nexts: &[u16],
+    sources: &[u16],
+    firsts: &mut [u16],
+    lasts: &mut [u16],
+    waiting: &mut [u16],
+    levels: &mut [u16],
+    winners: &mut [u8],
+    moves: &mut [u16],
+    work: &mut [u16],
+) -> Ended
+    requires { ⌜ Engine (now owners) (now priorities) (now starts) (now targets) (now heads) (now nexts) (now sources) (now firsts) (now lasts) (now waiting) (now levels) (now winners) (now moves) (now work) ⌝ }
+    ensures ran { λ r. ⌜ Ran (now (owners .entry)) (now (priorities .entry)) (now (starts .entry)) (now (targets .entry)) (now (heads .entry)) (now (nexts .entry)) (now (sources .entry)) (now (winners .entry)) (now (moves .entry)) (now (work .entry)) (now (firsts .exit)) (now (lasts .exit)) (now (waiting .exit)) (now (levels .exit)) (now (winners .exit)) (now (moves .exit)) (now (work .exit)) r ⌝ }
+    ensures fell { λ r. ⌜ Fell budget (now (owners .entry)) (now (priorities .entry)) (now (starts .entry)) (now (targets .entry)) (now (winners .entry)) (now (work .entry)) (now (winners .exit)) (now (work .exit)) r ⌝ }
+{
+    let n = owners.len();
+    let mut low: usize = 0;
+    let mut left = budget;
+    while 0 < left {
+        let picked = pick(n, low, firsts, waiting, work);
+        let Picked::At(v) = picked else {
+            return Ended::Done;
+        };
+        low = step_least(
+            v,
+            owners,
+            priorities,
+            starts,
+            targets,
+            heads,
+            nexts,
+            sources,
+            firsts,
+            lasts,
+            waiting,
+            levels,
+            winners,
+            moves,
+            work,
+        );
+        left -= 1;
+    }
+    Ended::Spent
+}
