@@ -1,7 +1,8 @@
 //! The benchmark: the library beside Zielonka's method, the method of source document 000 and a
 //! plain Rust version of the library's own method, on full-size games of every family, all in one
 //! run. Times are milliseconds: of each game the median of several runs, of each family its worst
-//! game.
+//! game. Then the games of tests/hard, with what the Rust version counts. The Rust version must give
+//! the library's own answers, moves and all.
 
 // What the second program uses of these modules is more than what is used here.
 #[allow(dead_code)]
@@ -13,6 +14,8 @@ mod ffi;
 #[allow(dead_code)]
 #[path = "../tests/second/game.rs"]
 mod game;
+#[path = "../tests/hard/games.rs"]
+mod games;
 #[allow(dead_code)]
 #[path = "../tests/second/judge.rs"]
 mod judge;
@@ -25,11 +28,17 @@ mod said;
 #[allow(dead_code)]
 #[path = "../tests/second/shapes.rs"]
 mod shapes;
+#[path = "../tests/hard/text.rs"]
+mod text;
+#[path = "../tests/hard/yardstick.rs"]
+mod yardstick;
 #[allow(dead_code)]
 #[path = "../tests/second/zielonka.rs"]
 mod zielonka;
 
+mod beside;
 mod freezing;
+mod hard;
 mod justifications;
 mod library;
 mod timing;
@@ -98,6 +107,10 @@ fn main() -> ExitCode {
         }
     }
     println!("\n{NOTES}");
+    if let Err(what) = hard::table() {
+        println!("{what}");
+        return ExitCode::FAILURE;
+    }
     ExitCode::SUCCESS
 }
 
@@ -159,8 +172,10 @@ fn measure(game: &Tables, rng: &mut Prng) -> Result<Measured, String> {
             rust.is_some()
         }),
     };
+    let rust = rust.ok_or("the Rust version's test refuses the tables")?;
+    beside::same(&answer, &rust)?;
     // A method that gives other winners is not worth its time.
-    for other in [zielonka, freezing, rust].into_iter().flatten() {
+    for other in [zielonka, freezing].into_iter().flatten() {
         right(game, &other)?;
         if other.winners != answer.winners {
             return Err("the methods give different winners".to_string());

@@ -31,7 +31,7 @@ impl fmt::Display for Time {
         if self.0.is_infinite() {
             return write!(f, "> {}", LIMIT.as_millis());
         }
-        write!(f, "{:.2}", self.0)
+        write!(f, "{:.*}", f.precision().unwrap_or(2), self.0)
     }
 }
 

@@ -12,8 +12,8 @@ use Rattle.justification.specs.Step.{Tested}
 use Rattle.levels.specs.Levels.{settledOf, FloorOf}
 use Rattle.attract.specs.declared.offer.Ground.{Ground}
 use Rattle.attract.specs.declared.offer.Ground.the-variants.{Level, None}
-use Rattle.attract.specs.declared.offer.Offer.{Offer}
-use Rattle.attract.specs.declared.offer.Offer.the-variants.{Gets, Nothing}
+use Rattle.attract.specs.declared.offer.Chance.{Chance}
+use Rattle.attract.specs.declared.offer.Chance.the-variants.{Gets, Nothing}
 
 -- every vertex has a priority, a level, a mark and a flag
 pub record Kept (priorities levels winners work : List ℕ) : Type 0 where
@@ -60,6 +60,6 @@ pub record Offered (x p m level : ℕ) (owners priorities starts targets levels 
   pub grounds : (w : ℕ) → Edge (gameOf owners priorities starts targets) x w → (getD owners x 0 ≡ p → w ≡ m) → Grounds priorities levels work level w
 
 -- what is offered; that nothing is offered says nothing
-abbrev pub Offers : (x : ℕ) (owners priorities starts targets levels winners work : List ℕ) → Offer → Type 0
+abbrev pub Offers : (x : ℕ) (owners priorities starts targets levels winners work : List ℕ) → Chance → Type 0
 Offers x owners priorities starts targets levels winners work (Gets line) = Offered x (line .winner) (line .to) (line .level) owners priorities starts targets levels winners work
 Offers x owners priorities starts targets levels winners work Nothing = Unit {0}

@@ -1,5 +1,5 @@
 // Drawing the predecessors of a vertex to its winner.
-use crate::offer::Offer;
+use crate::offer::Chance;
 use crate::offer::offer;
 use crate::pile::Pile;
 use crate::pile::larger;
@@ -44,7 +44,7 @@ fn draw(
         winners,
         work,
     );
-    let Offer::Gets(line) = offered else {
+    let Chance::Gets(line) = offered else {
         return pile;
     };
     step(

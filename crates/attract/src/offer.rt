@@ -4,11 +4,12 @@ use game::vertex::successors;
 use game::vertex::wide;
 use levels::floor;
 use step::test::Line;
-ghost use Prim.Native.Nat.{_≤_};
+ghost use mathlib.Core.Path.{_≡_};
+ghost use Prim.Native.Nat.{min, _≤_};
 ghost use Rattle.attract.specs.Offering.{AllSeen, AllFor, Offerable, Offers};
 
 // A line, or none for now.
-pub enum Offer {
+pub enum Chance {
     Gets(Line),
     Nothing,
 }
@@ -20,7 +21,7 @@ pub enum Ground {
 }
 
 fn lesser(a: u16, b: u16) -> u16
-    ensures { λ r. ⌜ (r ≤ a) × (r ≤ b) ⌝ }
+    ensures { λ r. ⌜ r ≡ min a b ⌝ }
 {
     if a < b { a } else { b }
 }
@@ -76,21 +77,21 @@ pub fn offer(
     levels: &[u16],
     winners: &[u8],
     work: &[u16],
-) -> Offer
+) -> Chance
     requires { ⌜ Offerable x u (now owners) (now priorities) (now starts) (now targets) (now levels) (now winners) (now work) ⌝ }
     ensures { λ r. ⌜ Offers x (now (owners .entry)) (now (priorities .entry)) (now (starts .entry)) (now (targets .entry)) (now (levels .entry)) (now (winners .entry)) (now (work .entry)) r ⌝ }
 {
     if work[x] == 0 {
-        return Offer::Nothing;
+        return Chance::Nothing;
     }
     let bound = at_least(priorities[x], low);
     let winner = mark(winners, u);
     if owners[x] == winner {
         let level = floor(u, priorities, levels, work);
         if level < bound {
-            return Offer::Nothing;
+            return Chance::Nothing;
         }
-        return Offer::Gets(Line {
+        return Chance::Gets(Line {
             winner,
             to: u as u16,
             level,
@@ -106,9 +107,9 @@ pub fn offer(
         work,
     );
     let Ground::Level(level) = ground else {
-        return Offer::Nothing;
+        return Chance::Nothing;
     };
-    Offer::Gets(Line {
+    Chance::Gets(Line {
         winner,
         to: 65535,
         level,

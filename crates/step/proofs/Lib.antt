@@ -6,5 +6,6 @@ pub mod Turns
 pub mod Settling
 pub mod Supports
 pub mod Carry
+pub mod Moving
 pub mod Steps
 pub mod Least

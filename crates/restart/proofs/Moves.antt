@@ -1,0 +1,71 @@
+-- A fresh start takes the engine to an engine.
+use Prim.Native.Nat.{ℕ}
+use mathlib.Core.Path.{_≡_, sym, subst, _∙_}
+use mathlib.Core.List.{List}
+use native.Mathlib.Omega.{arith}
+use lib.ListN.{length}
+use Rattle.game.proofs.Stores.{room-is}
+use Rattle.step.specs.Stepping.{Engine, Moved}
+use Rattle.restart.specs.Restarting.{Restartable, RestartedIn}
+use Rattle.restart.proofs.Resets.{safe, levelled, carried}
+
+module _
+    {owners priorities starts targets heads nexts sources firsts lasts waiting levels winners moves work : List ℕ}
+    (s : Engine owners priorities starts targets heads nexts sources firsts lasts waiting levels winners moves work)
+  where
+    level : length priorities ≡ length owners
+    level = s .state .well-formed .level
+
+    -- the fresh start asks what the engine has
+    pub restartable : {stack : List ℕ} → length stack ≡ 2048 → Restartable (length priorities) priorities targets heads nexts sources firsts lasts waiting levels stack winners work
+    restartable long =
+        rw level
+        (record {
+          standing = s .standing;
+          covered = s .covered;
+          room = s .state .winners-long;
+          levels-long = s .levels-long;
+          stack-long = long;
+          unmarked = s .state .unmarked;
+          preds = s .preds;
+        })
+
+    -- and gives an engine in which every kept set is kept
+    pub restarted-moved :
+        {firsts′ lasts′ waiting′ levels′ winners′ work′ : List ℕ} →
+        RestartedIn (length priorities) priorities targets sources levels winners work firsts′ lasts′ waiting′ levels′ winners′ work′ →
+        Moved owners priorities starts targets heads nexts sources winners moves work firsts′ lasts′ waiting′ levels′ winners′ moves work′
+    restarted-moved {firsts′} {lasts′} {waiting′} {levels′} {winners′} {work′} t₀ =
+        record {
+          engine =
+              record {
+                state =
+                    record {
+                      well-formed = s .state .well-formed;
+                      winners-long = t .room ∙ s .state .winners-long;
+                      moves-long = s .state .moves-long;
+                      work-long = t .long ∙ s .state .work-long;
+                      unmarked = t .unmarked;
+                      safe = safe s t;
+                    };
+                preds = s .preds;
+                edges = s .edges;
+                standing =
+                    record {
+                      small = s .standing .small;
+                      priorities-long = s .standing .priorities-long;
+                      bytes = s .standing .bytes;
+                      waiting-long = t .waiting-long;
+                      work-long = t .long ∙ s .state .work-long;
+                      lines = t .lines;
+                    };
+                covered = t .covered;
+                levels-long = omega (arith, t .levels-long, s .levels-long);
+                levelled = levelled s t;
+              };
+          winners-long = sym (room-is winners′) ∙ t .room ∙ room-is winners;
+          carried = carried s t;
+        }
+      where
+        t : RestartedIn (length owners) priorities targets sources levels winners work firsts′ lasts′ waiting′ levels′ winners′ work′
+        t = subst (λ (x : ℕ). RestartedIn x priorities targets sources levels winners work firsts′ lasts′ waiting′ levels′ winners′ work′) level t₀
