@@ -39,7 +39,7 @@ module _
           kept =
               record {
                 small = omega (arith, level, e .standing .small);
-                levels-long = omega (arith, level, e .levels-long);
+                levels-long = omega (arith, level, e .standing .small, e .levels-long);
                 room = e .state .winners-long ∙ sym level;
                 work-long = omega (arith, level, e .state .work-long);
               };

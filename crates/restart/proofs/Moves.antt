@@ -24,7 +24,7 @@ module _
           standing = s .standing;
           covered = s .covered;
           room = s .state .winners-long;
-          levels-long = s .levels-long;
+          levels-long = omega (arith, s .levels-long, s .standing .small);
           stack-long = long;
           unmarked = s .state .unmarked;
           preds = s .preds;

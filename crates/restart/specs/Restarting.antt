@@ -60,7 +60,7 @@ pub record RestartedIn (n : ℕ) (priorities targets sources levels winners work
   pub open-reached : OpenReached n targets sources (section 0 n work) reached
   pub room : markRoom winners′ ≡ markRoom winners
   pub long : length work′ ≡ length work
-  pub waiting-long : n ≤ length waiting′
+  pub waiting-long : length waiting′ ≡ 2048
   pub levels-long : length levels′ ≡ length levels
   pub reopened : (u : ℕ) → u < n → getD reached u 0 ≡ 1 → Opened priorities winners′ (section 0 n work′) u
   pub same-flag : (u : ℕ) → u < n → getD reached u 0 ≢ 1 → getD (section 0 n work′) u 0 ≡ getD (section 0 n work) u 0

@@ -67,7 +67,7 @@ module _
           markRoom winners′ ≡ markRoom winners →
           length moves′ ≡ length moves →
           length work′ ≡ length work →
-          n ≤ length waiting′ →
+          length waiting′ ≡ 2048 →
           length levels′ ≡ length levels →
           Filled (section 1 n work′) 0 →
           Lines n priorities waiting′ firsts′ lasts′ (section 3 n work′) →
@@ -223,7 +223,7 @@ module _
           covered = s .covered;
           room = t .winners-long;
           moves-long = t .moves-long;
-          levels-long = s .levels-long;
+          levels-long = omega (arith, s .levels-long, s .standing .small);
           unmarked = t .unmarked;
           preds = s .preds;
         })

@@ -24,7 +24,7 @@ pub record Engine (owners priorities starts targets heads nexts sources firsts l
   pub edges : EdgesOf (length owners) starts targets sources
   pub standing : Standing (length owners) priorities firsts lasts waiting work
   pub covered : Covered (length owners) (section 0 (length owners) work) waiting
-  pub levels-long : length owners ≤ length levels
+  pub levels-long : length levels ≡ 2048
   pub levelled : Levelled (gameOf owners priorities starts targets) (markOf winners) (moveOf moves) (settledOf (length owners) work) (levelOf levels)
 
 -- the winner p, the move m and the level k fit v: it is open, the test by its successors gives them, and supports stay above v's priority and k

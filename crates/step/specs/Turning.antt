@@ -39,7 +39,7 @@ pub record TurnedIn (n v p m k low : ℕ) (priorities targets sources levels win
   pub leaning : Reached n targets sources (section 0 n work) moves v reached
   pub room : markRoom winners′ ≡ markRoom winners
   pub long : length work′ ≡ length work
-  pub waiting-long : n ≤ length waiting′
+  pub waiting-long : length waiting′ ≡ 2048
   pub mark : markOf winners′ v ≡ p
   pub move : MoveSet moves moves′ v m
   pub level : LevelSet levels levels′ v k

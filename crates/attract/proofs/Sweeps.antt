@@ -1,0 +1,70 @@
+-- Draining the pile and sweeping the lines: the engine goes on.
+use Prim.Native.Nat.{ℕ, _+_, _<_}
+use mathlib.Core.Path.{_≡_, refl}
+use mathlib.Core.List.{List}
+use native.Mathlib.Omega.{arith}
+use lib.ListN.{length, getD}
+use Rattle.attract.specs.Pile.{Piled}
+use Rattle.attract.specs.Drawing.{Drainable, Visitable, Drawn}
+use Rattle.attract.specs.Gathering.{Gatherable, Gathered}
+use Rattle.attract.proofs.Piles.{piled-none, piled-less}
+use Rattle.attract.proofs.Visits.{drawn-more}
+use Rattle.step.proofs.Moving.{moved-more, moved-lines}
+
+module _ {owners priorities starts targets heads nexts sources winners₀ moves₀ work₀ firsts lasts waiting levels stack winners moves work : List ℕ} where
+  -- the last of the pile is a vertex, and the rest is a pile
+  pub drain-visitable : {tail last : ℕ} → Drawn tail owners priorities starts targets heads nexts sources winners₀ moves₀ work₀ firsts lasts waiting levels stack winners moves work → tail ≡ last + 1 → Visitable (getD stack last 0) last owners priorities starts targets heads nexts sources firsts lasts waiting levels stack winners moves work
+  drain-visitable {tail} {last} d e =
+      record {
+        drainable = record { engine = d .moved .engine; piled = piled-less (rw e at (d .piled)) };
+        vertex = d .piled .vertex last (omega arith);
+      }
+
+  -- a drained pile need not be empty: what is left on it is forgotten
+  pub drained : {tail : ℕ} → Drawn tail owners priorities starts targets heads nexts sources winners₀ moves₀ work₀ firsts lasts waiting levels stack winners moves work → Drawn 0 owners priorities starts targets heads nexts sources winners₀ moves₀ work₀ firsts lasts waiting levels stack winners moves work
+  drained d = record { moved = d .moved; piled = piled-none (d .piled .long) }
+
+  module _ (d : Drawn 0 owners priorities starts targets heads nexts sources winners₀ moves₀ work₀ firsts lasts waiting levels stack winners moves work) where
+    pub sweep-gatherable : {p : ℕ} → p < 256 → Gatherable (length owners) p firsts waiting stack work
+    sweep-gatherable l =
+        record {
+          frontable = record { pickable = record { priorities = priorities; lasts = lasts; standing = d .moved .engine .standing }; line = l };
+          stack-long = d .piled .long;
+        }
+
+    -- the lines after the gathering, and the pile
+    pub sweep-gathered :
+        {tail : ℕ} {firsts′ waiting′ stack′ : List ℕ} →
+        Gathered (length owners) firsts waiting work firsts′ waiting′ stack′ tail →
+        Drawn tail owners priorities starts targets heads nexts sources winners₀ moves₀ work₀ firsts′ lasts waiting′ levels stack′ winners moves work
+    sweep-gathered g =
+        let e = d .moved .engine in
+        record {
+          moved =
+              moved-more (d .moved)
+              (moved-lines e
+              (record {
+                small = e .standing .small;
+                priorities-long = e .standing .priorities-long;
+                bytes = e .standing .bytes;
+                waiting-long = omega (arith, g .long, e .standing .waiting-long);
+                work-long = e .standing .work-long;
+                lines = g .lines priorities lasts (e .standing .lines);
+              })
+              (record { waits = λ u l o. g .kept u l o (e .covered .waits u l o) }));
+          piled = g .piled;
+        }
+
+    -- what a drain of it asks
+    pub sweep-drainable :
+        {tail : ℕ} {firsts′ waiting′ stack′ : List ℕ} →
+        Gathered (length owners) firsts waiting work firsts′ waiting′ stack′ tail →
+        Drainable tail owners priorities starts targets heads nexts sources firsts′ lasts waiting′ levels stack′ winners moves work
+    sweep-drainable g = let s = sweep-gathered g in record { engine = s .moved .engine; piled = s .piled }
+
+    pub sweep-more :
+        {tail : ℕ} {firsts₁ waiting₁ stack₁ firsts′ lasts′ waiting′ levels′ stack′ winners′ moves′ work′ : List ℕ} →
+        Gathered (length owners) firsts waiting work firsts₁ waiting₁ stack₁ tail →
+        Drawn 0 owners priorities starts targets heads nexts sources winners moves work firsts′ lasts′ waiting′ levels′ stack′ winners′ moves′ work′ →
+        Drawn 0 owners priorities starts targets heads nexts sources winners₀ moves₀ work₀ firsts′ lasts′ waiting′ levels′ stack′ winners′ moves′ work′
+    sweep-more g x = drawn-more (sweep-gathered g) x
