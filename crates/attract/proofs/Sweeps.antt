@@ -1,5 +1,5 @@
 -- Draining the pile and sweeping the lines: the engine goes on.
-use Prim.Native.Nat.{ℕ, _+_, _<_}
+use Prim.Native.Nat.{ℕ, _+_, _<_, _≤_}
 use mathlib.Core.Path.{_≡_, refl}
 use mathlib.Core.List.{List}
 use native.Mathlib.Omega.{arith}
@@ -10,6 +10,11 @@ use Rattle.attract.specs.Gathering.{Gatherable, Gathered}
 use Rattle.attract.proofs.Piles.{piled-none, piled-less}
 use Rattle.attract.proofs.Visits.{drawn-more}
 use Rattle.step.proofs.Moving.{moved-more, moved-lines}
+
+-- the engine has moved, and no more is left of the budget than there was
+pub record Going (budget left tail : ℕ) (owners priorities starts targets heads nexts sources winners₀ moves₀ work₀ firsts lasts waiting levels stack winners moves work : List ℕ) : Type 0 where
+  pub at-most : left ≤ budget
+  pub drawn : Drawn tail owners priorities starts targets heads nexts sources winners₀ moves₀ work₀ firsts lasts waiting levels stack winners moves work
 
 module _ {owners priorities starts targets heads nexts sources winners₀ moves₀ work₀ firsts lasts waiting levels stack winners moves work : List ℕ} where
   -- the last of the pile is a vertex, and the rest is a pile
