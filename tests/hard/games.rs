@@ -11,7 +11,8 @@ pub struct Named {
 
 /// Found by climbing from random games to slow ones; the number at the end is that of the vertices.
 /// `hard.0` kept lowest first alone busy, `hard.1` attraction from the highest priority down, and
-/// `worst` the library's own method (bench/search).
+/// `worst` the library's own method: of bench/search with seeds 1 to 3, 15 seconds a size, the game
+/// of each size that visits the most edges. Other seeds find worse ones.
 const FILES: [(&str, &str); 13] = [
     ("hard.0.20", include_str!("hard.0.20")),
     ("hard.0.24", include_str!("hard.0.24")),

@@ -1,0 +1,66 @@
+-- Attraction: a sweep, a pick and a probe one after the other.
+use Prim.Native.Nat.{ℕ, _<_, _≤_}
+use mathlib.Core.Path.{_≡_}
+use mathlib.Core.List.{List}
+use native.Mathlib.Decide.{decLt}
+use native.Mathlib.Omega.{arith}
+use lib.ListN.{length}
+use Rattle.reach.specs.Work.{section}
+use Rattle.pick.specs.declared.Picked.{Picked}
+use Rattle.pick.specs.declared.Picked.the-variants.{At, Nothing}
+use Rattle.pick.specs.Order.{Picks}
+use Rattle.step.specs.Stepping.{LeastSteppable, LeastStepped}
+use Rattle.step.proofs.Moving.{moved-more}
+use Rattle.attract.specs.Pile.{Piled, Pushable, PushedOn}
+use Rattle.attract.specs.Drawing.{Drainable, Drawn}
+use Rattle.attract.proofs.Visits.{drawn-more}
+use Rattle.orders.specs.declared.Ended.the-variants.{Done}
+use Rattle.orders.specs.Ending.{Probable, Ran}
+use Rattle.orders.proofs.Running.{none-below-zero, picked-moved, picked-least, picked-all}
+
+module _
+    {v low : ℕ} {owners priorities starts targets heads nexts sources firsts lasts waiting levels stack winners moves work firsts′ lasts′ waiting′ levels′ winners′ moves′ work′ : List ℕ}
+    (p : Probable v owners priorities starts targets heads nexts sources firsts lasts waiting levels stack winners moves work)
+    (s : LeastStepped owners priorities starts targets heads nexts sources winners moves work firsts′ lasts′ waiting′ levels′ winners′ moves′ work′ low)
+  where
+    -- v goes on an empty pile
+    pub probe-pushable : Pushable v stack 0
+    probe-pushable =
+        record {
+          small = omega (arith, p .least .vertex, p .drainable .engine .standing .small);
+          long = p .drainable .piled .long;
+          within = omega arith;
+        }
+
+    pub probe-drainable : {tail : ℕ} {stack′ : List ℕ} → PushedOn v stack 0 stack′ tail → Drainable tail owners priorities starts targets heads nexts sources firsts′ lasts′ waiting′ levels′ stack′ winners′ moves′ work′
+    probe-drainable x = record { engine = s .moved .engine; piled = x .piled (length owners) (p .least .vertex) (p .drainable .piled) }
+
+    pub probed :
+        {firsts″ lasts″ waiting″ levels″ stack″ winners″ moves″ work″ : List ℕ} →
+        Drawn 0 owners priorities starts targets heads nexts sources winners′ moves′ work′ firsts″ lasts″ waiting″ levels″ stack″ winners″ moves″ work″ →
+        Drawn 0 owners priorities starts targets heads nexts sources winners moves work firsts″ lasts″ waiting″ levels″ stack″ winners″ moves″ work″
+    probed d = record { moved = moved-more (s .moved) (d .moved); piled = d .piled }
+
+module _
+    {owners priorities starts targets heads nexts sources winners₀ moves₀ work₀ firsts lasts waiting levels stack winners moves work firsts′ waiting′ : List ℕ} {r : Picked}
+    (d : Drawn 0 owners priorities starts targets heads nexts sources winners₀ moves₀ work₀ firsts lasts waiting levels stack winners moves work)
+    (p : Picks (length owners) 0 firsts waiting work firsts′ waiting′ r)
+  where
+    pub picked-probable : {v : ℕ} → r ≡ At v → Probable v owners priorities starts targets heads nexts sources firsts′ lasts waiting′ levels stack winners moves work
+    picked-probable h =
+        record {
+          drainable = record { engine = picked-moved (d .moved .engine) none-below-zero p .engine; piled = d .piled };
+          least = picked-least (d .moved .engine) none-below-zero p h;
+        }
+
+    -- nothing is open
+    pub attracted-all : r ≡ Nothing → Ran owners priorities starts targets heads nexts sources winners₀ moves₀ work₀ firsts′ lasts waiting′ levels winners moves work Done
+    attracted-all h =
+        record {
+          moved = moved-more (d .moved) (picked-moved (d .moved .engine) none-below-zero p);
+          ends = picked-all (d .moved .engine) none-below-zero p h;
+        }
+
+-- each turn leaves less of the budget
+pub spends : {left swept rest : ℕ} → 0 < left → swept ≤ left → rest ≤ swept → (0 < swept → rest < swept) → rest < left
+spends {left} {swept} {rest} some a b less = elim (decLt 0 swept) [ yes l ↦ omega (arith, less l) | no h ↦ omega arith ]
