@@ -14,7 +14,7 @@ use Rattle.reach.specs.Work.{section}
 use Rattle.reach.specs.Lists.{Filled}
 use Rattle.reach.specs.Build.{Built}
 use Rattle.reach.proofs.Stores.{filled-zeroed}
-use Rattle.step.specs.State.{settledOf}
+use Rattle.levels.specs.Levels.{settledOf}
 use Rattle.solver.specs.Settling.{Settleable, SettledTo}
 use Rattle.solver.specs.Starting.{AllOpen, Answerable, AnsweredBy}
 

@@ -1,6 +1,6 @@
--- Before the engine runs: the open vertices line up in section 3, which nothing of the state reads.
-use Prim.Native.Nat.{ℕ, _-_}
-use mathlib.Core.Path.{_≡_, sym, ap, subst, _∙_}
+-- Before the engine runs: the open vertices line up in section 3, which nothing of the state reads, and the levels are the priorities.
+use Prim.Native.Nat.{ℕ, _-_, _<_}
+use mathlib.Core.Path.{_≡_, refl, sym, ap, subst, _∙_}
 use mathlib.Core.List.{List}
 use native.Mathlib.Omega.{arith}
 use lib.ListN.{length, getD, replicate, getD-replicate}
@@ -9,30 +9,46 @@ use Rattle.game.specs.Answer.{markOf, moveOf}
 use Rattle.justification.specs.Safe.{Safe}
 use Rattle.reach.specs.Lists.{nil, Filled}
 use Rattle.pick.specs.Moves.{Fillable, FilledIn}
-use Rattle.step.specs.State.{settledOf, KeptSet}
-use Rattle.solver.specs.Settling.{Settleable, Runnable, SettledTo}
+use Rattle.levels.specs.Levels.{settledOf, Room, ByPriority}
+use Rattle.levels.proofs.Floors.{priority-levelled}
+use Rattle.step.specs.State.{KeptSet}
+use Rattle.attract.specs.Drawing.{Drainable}
+use Rattle.attract.proofs.Piles.{piled-none}
+use Rattle.solver.specs.Settling.{Settleable, SettledTo}
 
 -- nobody stands in any line
 pub all-empty : Filled (replicate 256 nil) nil
 all-empty = record { all = λ i h. getD-replicate 256 i nil 0 h }
 
+-- and nobody waits
+pub all-idle : Filled (replicate 2048 0) 0
+all-idle = record { all = λ i h. getD-replicate 2048 i 0 0 h }
+
 module _ (owners priorities starts targets heads nexts sources winners moves work : List ℕ) (s : Settleable owners priorities starts targets heads nexts sources winners moves work) where
-  pub fillable : {firsts lasts : List ℕ} → length firsts ≡ 256 → length lasts ≡ 256 → Filled firsts nil → Fillable (length owners) priorities firsts lasts work
-  fillable e f empty =
+  bytes : (v : ℕ) → v < length owners → getD priorities v 0 < 256
+  bytes v l = omega (arith, s .state .well-formed .sound .ranked v l)
+
+  pub fillable : {firsts lasts waiting : List ℕ} → length firsts ≡ 256 → length lasts ≡ 256 → length waiting ≡ 2048 → Filled firsts nil → Filled waiting 0 → Fillable (length owners) priorities firsts lasts waiting work
+  fillable e f g empty idle =
       record {
-        room =
-            record {
-              small = s .state .well-formed .sound .few;
-              priorities-long = s .state .well-formed .level;
-              work-long = s .state .work-long;
-              bytes = λ v l. omega (arith, s .state .well-formed .sound .ranked v l);
-            };
+        small = s .state .well-formed .sound .few;
+        priorities-long = s .state .well-formed .level;
+        bytes = bytes;
+        waiting-long = g;
+        work-long = s .state .work-long;
         firsts-long = e;
         lasts-long = f;
         empty = empty;
+        nobody = idle;
       }
 
-  module _ {firsts′ lasts′ work′ : List ℕ} (r : FilledIn (length owners) priorities work firsts′ lasts′ work′) where
+  pub levels-room : {levels : List ℕ} → length levels ≡ 2048 → Room priorities levels
+  levels-room e =
+      let few = s .state .well-formed .sound .few in
+      let level = s .state .well-formed .level in
+      record { small = omega arith; long = omega arith }
+
+  module _ {waiting firsts′ lasts′ waiting′ work′ : List ℕ} (r : FilledIn (length owners) priorities waiting work firsts′ lasts′ waiting′ work′) where
     -- a vertex is settled after as before
     same-settled : (v : ℕ) → settledOf (length owners) work′ v ≡ settledOf (length owners) work v
     unfolding settledOf
@@ -43,8 +59,10 @@ module _ (owners priorities starts targets heads nexts sources winners moves wor
     same-safe =
         subst (λ (x : List ℕ). Safe (gameOf owners priorities starts targets) (markOf winners) (moveOf moves) (λ v. 1 - getD x v 0)) (sym (r .links-only .flags)) (s .state .safe)
 
-    pub runnable : Runnable owners priorities starts targets heads nexts sources firsts′ lasts′ winners moves work′
-    runnable =
+    pub runnable :
+        {levels levels′ stack : List ℕ} → length waiting ≡ 2048 → length levels ≡ 2048 → length stack ≡ 2048 → ByPriority priorities levels levels′ →
+        Drainable 0 owners priorities starts targets heads nexts sources firsts′ lasts′ waiting′ levels′ stack winners moves work′
+    runnable e f g b =
         record {
           engine =
               record {
@@ -59,8 +77,22 @@ module _ (owners priorities starts targets heads nexts sources winners moves wor
                     };
                 preds = s .preds;
                 edges = s .edges;
-                lines = r .lines;
+                standing =
+                    record {
+                      small = s .state .well-formed .sound .few;
+                      priorities-long = s .state .well-formed .level;
+                      bytes = bytes;
+                      waiting-long = r .long ∙ e;
+                      work-long = r .links-only .long ∙ s .state .work-long;
+                      lines = r .lines;
+                    };
+                covered = r .covered;
+                levels-long = b .long ∙ f;
+                levelled =
+                    priority-levelled (gameOf owners priorities starts targets) (markOf winners) (moveOf moves) (settledOf (length owners) work′) (λ v. refl)
+                    (omega (arith, s .state .well-formed .level)) same-safe b;
               };
+          piled = piled-none g;
         }
 
     kept-set : (kept : List ℕ) → KeptSet owners priorities starts targets work kept → KeptSet owners priorities starts targets work′ kept

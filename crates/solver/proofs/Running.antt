@@ -1,72 +1,45 @@
--- The engine's loop: a state with its lines, carried from the start; when nothing is open the answer is accepted.
-use Prim.Native.Nat.{ℕ}
-use mathlib.Core.Path.{_≡_, refl, sym, _∙_}
+-- When nothing is open the answer is accepted, and no line of a kept set has changed.
+use Prim.Native.Nat.{ℕ, _<_}
+use mathlib.Core.Path.{_≡_, sym, subst, _∙_}
 use mathlib.Core.List.{List}
-use native.Mathlib.Omega.{arith}
 use lib.ListN.{length}
 use Rattle.game.specs.Tables.{gameOf}
 use Rattle.game.specs.Answer.{markOf, moveOf}
 use Rattle.justification.proofs.Finished.{finished}
 use Rattle.reach.specs.Work.{section}
-use Rattle.pick.specs.Order.{AllSettled, NoneBelow, FirstLine, NoLine}
-use Rattle.pick.proofs.Picking.{picked-least, picked-first, picked-none}
-use Rattle.step.specs.State.{settledOf, Carried}
-use Rattle.step.specs.Stepping.{Engine, Steppable, Stepped}
-use Rattle.step.proofs.Carry.{carried-none, carried-more}
-use Rattle.solver.specs.Settling.{Runnable, SettledTo}
+use Rattle.pick.specs.Order.{AllSettled}
+use Rattle.levels.specs.Levels.{settledOf}
+use Rattle.levels.proofs.Flags.{flag-settled}
+use Rattle.step.specs.Stepping.{Engine, Moved, Falls}
+use Rattle.orders.specs.declared.Ended.{Ended}
+use Rattle.orders.specs.declared.Ended.the-variants.{Done, Spent}
+use Rattle.orders.specs.Ending.{Ends, Ran, Fell}
+use Rattle.solver.specs.Settling.{SettledTo}
 
-pub record Running (low : ℕ) (owners priorities starts targets heads nexts sources winners₀ moves₀ work₀ firsts lasts winners moves work : List ℕ) : Type 0 where
-  pub engine : Engine owners priorities starts targets heads nexts sources firsts lasts winners moves work
-  pub none-below : NoneBelow (length owners) priorities (section 0 (length owners) work) low
-  pub winners-long : length winners ≡ length winners₀
-  pub moves-long : length moves ≡ length moves₀
-  pub work-long : length work ≡ length work₀
-  pub carried : Carried owners priorities starts targets winners₀ moves₀ work₀ winners moves work
-
-module _ (owners priorities starts targets heads nexts sources winners₀ moves₀ work₀ : List ℕ) where
-  pub running-none : {firsts lasts : List ℕ} → Runnable owners priorities starts targets heads nexts sources firsts lasts winners₀ moves₀ work₀ → Running 0 owners priorities starts targets heads nexts sources winners₀ moves₀ work₀ firsts lasts winners₀ moves₀ work₀
-  running-none r =
-      record {
-        engine = r .engine;
-        none-below = record { above = λ u l f. omega arith };
-        winners-long = refl;
-        moves-long = refl;
-        work-long = refl;
-        carried = carried-none;
-      }
-
-  module _ {low : ℕ} {firsts lasts winners moves work : List ℕ} (r : Running low owners priorities starts targets heads nexts sources winners₀ moves₀ work₀ firsts lasts winners moves work) where
-    pub running-steppable : {v : ℕ} → FirstLine firsts low v → Steppable v owners priorities starts targets heads nexts sources firsts lasts winners moves work
-    running-steppable f =
+module _
+    {owners priorities starts targets heads nexts sources firsts₀ lasts₀ waiting₀ levels₀ winners₀ moves₀ work₀ firsts lasts waiting levels winners moves work : List ℕ}
+    (e : Engine owners priorities starts targets heads nexts sources firsts₀ lasts₀ waiting₀ levels₀ winners₀ moves₀ work₀)
+    (m : Moved owners priorities starts targets heads nexts sources winners₀ moves₀ work₀ firsts lasts waiting levels winners moves work)
+  where
+    pub settled-all : AllSettled (length owners) (section 0 (length owners) work) → SettledTo owners priorities starts targets winners₀ moves₀ work₀ winners moves work
+    settled-all all =
         record {
-          engine = r .engine;
-          least = picked-least (r .engine .lines) (r .none-below) f;
-          first = picked-first (r .engine .lines) (r .none-below) f;
-        }
-
-    pub running-step : {low′ : ℕ} {firsts′ lasts′ winners′ moves′ work′ : List ℕ} → Stepped low′ owners priorities starts targets heads nexts sources winners moves work firsts′ lasts′ winners′ moves′ work′ → Running low′ owners priorities starts targets heads nexts sources winners₀ moves₀ work₀ firsts′ lasts′ winners′ moves′ work′
-    running-step s =
-        record {
-          engine = s .engine;
-          none-below = s .none-below;
-          winners-long = s .winners-long ∙ r .winners-long;
-          moves-long = (s .engine .state .moves-long ∙ sym (r .engine .state .moves-long)) ∙ r .moves-long;
-          work-long = (s .engine .state .work-long ∙ sym (r .engine .state .work-long)) ∙ r .work-long;
-          carried = carried-more (r .carried) (s .carried);
-        }
-
-    all-settled : NoLine firsts low → AllSettled (length owners) (section 0 (length owners) work)
-    all-settled = picked-none (r .engine .lines) (r .none-below) (λ v l. omega (arith, r .engine .state .well-formed .sound .ranked v l))
-
-    pub running-all : NoLine firsts low → SettledTo owners priorities starts targets winners₀ moves₀ work₀ winners moves work
-    unfolding settledOf
-    running-all none =
-        record {
-          winners-long = r .winners-long;
-          moves-long = r .moves-long;
-          work-long = r .work-long;
+          winners-long = m .winners-long;
+          moves-long = m .engine .state .moves-long ∙ sym (e .state .moves-long);
+          work-long = m .engine .state .work-long ∙ sym (e .state .work-long);
           accepted =
-              finished (gameOf owners priorities starts targets) (markOf winners) (moveOf moves) (settledOf (length owners) work) (r .engine .state .safe)
-              (λ v l. omega (arith, all-settled none v l));
-          unmoved = record { mark = r .carried .mark; move = r .carried .move };
+              finished (gameOf owners priorities starts targets) (markOf winners) (moveOf moves) (settledOf (length owners) work) (m .engine .state .safe)
+              (λ v l. flag-settled (length owners) work v (all v l));
+          unmoved = record { mark = m .carried .mark; move = m .carried .move };
         }
+
+-- what a caller that has looked at the answer knows
+pub ran-done :
+    {owners priorities starts targets heads nexts sources winners moves work firsts′ lasts′ waiting′ levels′ winners′ moves′ work′ : List ℕ} {r : Ended} → r ≡ Done →
+    Ran owners priorities starts targets heads nexts sources winners moves work firsts′ lasts′ waiting′ levels′ winners′ moves′ work′ r → AllSettled (length owners) (section 0 (length owners) work′)
+ran-done {owners} {work′ = work′} h x = subst (Ends (length owners) (section 0 (length owners) work′)) h (x .ends)
+
+pub ran-spent :
+    {budget : ℕ} {owners priorities starts targets winners work winners′ work′ : List ℕ} {r : Ended} → r ≡ Spent → 0 < budget →
+    Fell budget owners priorities starts targets winners work winners′ work′ r → Falls owners priorities starts targets winners work winners′ work′
+ran-spent {budget} {owners} {priorities} {starts} {targets} {winners} {work} {winners′} {work′} h l x = subst (Fell budget owners priorities starts targets winners work winners′ work′) h x l

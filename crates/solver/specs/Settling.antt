@@ -8,17 +8,12 @@ use Rattle.game.specs.Answer.{markOf, moveOf}
 use Rattle.winning.specs.Answer.{Accepted}
 use Rattle.reach.specs.Lists.{Preds, EdgesOf}
 use Rattle.step.specs.State.{State, KeptSet}
-use Rattle.step.specs.Stepping.{Engine}
 
 -- a safe state, and the predecessor lists of the game
 pub record Settleable (owners priorities starts targets heads nexts sources winners moves work : List ℕ) : Type 0 where
   pub state : State owners priorities starts targets winners moves work
   pub preds : Preds (length owners) targets heads nexts sources
   pub edges : EdgesOf (length owners) starts targets sources
-
--- the same with the waiting lines
-pub record Runnable (owners priorities starts targets heads nexts sources firsts lasts winners moves work : List ℕ) : Type 0 where
-  pub engine : Engine owners priorities starts targets heads nexts sources firsts lasts winners moves work
 
 -- no line of a set of settled vertices whose successors are all in it changes
 pub record Unmoved (owners priorities starts targets winners moves work winners′ moves′ : List ℕ) : Type 0 where

@@ -13,6 +13,7 @@ ghost use mathlib.Core.Path.{_≡_};
 ghost use Rattle.solver.specs.Solving.{Solves, solvedSaid};
 ghost use Rattle.solver.specs.Starting.{Answerable, AnsweredBy};
 
+mod rounds;
 pub mod settle;
 pub mod start;
 

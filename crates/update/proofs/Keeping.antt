@@ -12,7 +12,8 @@ use Rattle.game.specs.Tables.{gameOf, WellFormed}
 use Rattle.game.specs.Answer.{markOf, moveOf}
 use Rattle.justification.specs.Start.{Start}
 use Rattle.justification.proofs.Started.{start-safe}
-use Rattle.step.specs.State.{settledOf, State, KeptSet}
+use Rattle.levels.specs.Levels.{settledOf}
+use Rattle.step.specs.State.{State, KeptSet}
 use Rattle.update.specs.Deciding.{Prepared, Kept}
 
 -- the unmarked vertices, flagged with 1

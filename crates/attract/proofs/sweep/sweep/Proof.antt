@@ -43,28 +43,28 @@ loop-again : tie.Need-loop-again Inv-loop μ-loop
 loop-again c = (omega (arith, c .before .before .before .before .before .before .before .before .before .before .before .before .before .before .before .before .before .before .before .before .before .before .before .before .before .before .before .before .before .before .before .before .before .before .before .before .before .before .loop .inv .0), record { at-most = omega (arith, c .before .before .before .before .before .before .before .before .before .before .before .before .before .before .before .before .before .before .before .before .before .before .before .before .before .before .before .before .before .before .before .before .before .before .before .before .before .before .loop .inv .1 .at-most, c .before .before .before .before .before .before .before .before .before .before .before .before .before .before .before .before .before .drain .ensures .0); drawn = sweep-more (c .before .before .before .before .before .before .before .before .before .before .before .before .before .before .before .before .before .before .before .before .before .before .before .before .before .before .before .before .before .before .before .before .before .before .before .before .before .before .loop .inv .1 .drawn) (c .before .before .before .before .before .before .before .before .before .before .before .before .before .before .before .before .before .before .before .before .before .before .before .before .before .before .before .before .before .before .before .before .gather .ensures) (c .before .before .before .before .before .before .before .before .before .before .before .before .before .before .before .before .before .drain .ensures .1) })
 
 same-length : tie.Need-same-length Inv-loop μ-loop
-same-length c = c .before .loop .inv .1 .drawn .moved .engine .standing .lines .firsts-long ∙ sym (c .before .before .before .before .before .before .before .before .before .before .before .before .before .before .before .before .before .before .pre  .engine .standing .lines .firsts-long)
+same-length c = c .before .loop .inv .1 .drawn .moved .engine .standing .lines .firsts-long ∙ sym (c .before .before .before .before .before .before .before .before .before .before .before .before .before .before .before .before .before .before .pre .engine .standing .lines .firsts-long)
 
 same-length-2 : tie.Need-same-length-2 Inv-loop μ-loop
-same-length-2 c = c .before .loop .inv .1 .drawn .moved .engine .standing .lines .lasts-long ∙ sym (c .before .before .before .before .before .before .before .before .before .before .before .before .before .before .before .before .before .before .pre  .engine .standing .lines .lasts-long)
+same-length-2 c = c .before .loop .inv .1 .drawn .moved .engine .standing .lines .lasts-long ∙ sym (c .before .before .before .before .before .before .before .before .before .before .before .before .before .before .before .before .before .before .pre .engine .standing .lines .lasts-long)
 
 same-length-3 : tie.Need-same-length-3 Inv-loop μ-loop
-same-length-3 c = c .before .loop .inv .1 .drawn .moved .engine .standing .waiting-long ∙ sym (c .before .before .before .before .before .before .before .before .before .before .before .before .before .before .before .before .before .before .pre  .engine .standing .waiting-long)
+same-length-3 c = c .before .loop .inv .1 .drawn .moved .engine .standing .waiting-long ∙ sym (c .before .before .before .before .before .before .before .before .before .before .before .before .before .before .before .before .before .before .pre .engine .standing .waiting-long)
 
 same-length-4 : tie.Need-same-length-4 Inv-loop μ-loop
-same-length-4 c = c .before .loop .inv .1 .drawn .moved .engine .levels-long ∙ sym (c .before .before .before .before .before .before .before .before .before .before .before .before .before .before .before .before .before .before .pre  .engine .levels-long)
+same-length-4 c = c .before .loop .inv .1 .drawn .moved .engine .levels-long ∙ sym (c .before .before .before .before .before .before .before .before .before .before .before .before .before .before .before .before .before .before .pre .engine .levels-long)
 
 same-length-5 : tie.Need-same-length-5 Inv-loop μ-loop
-same-length-5 c = c .before .loop .inv .1 .drawn .piled .long ∙ sym (c .before .before .before .before .before .before .before .before .before .before .before .before .before .before .before .before .before .before .pre  .piled .long)
+same-length-5 c = c .before .loop .inv .1 .drawn .piled .long ∙ sym (c .before .before .before .before .before .before .before .before .before .before .before .before .before .before .before .before .before .before .pre .piled .long)
 
 same-length-6 : tie.Need-same-length-6 Inv-loop μ-loop
 same-length-6 c = c .before .loop .inv .1 .drawn .moved .winners-long
 
 same-length-7 : tie.Need-same-length-7 Inv-loop μ-loop
-same-length-7 c = c .before .loop .inv .1 .drawn .moved .engine .state .moves-long ∙ sym (c .before .before .before .before .before .before .before .before .before .before .before .before .before .before .before .before .before .before .pre  .engine .state .moves-long)
+same-length-7 c = c .before .loop .inv .1 .drawn .moved .engine .state .moves-long ∙ sym (c .before .before .before .before .before .before .before .before .before .before .before .before .before .before .before .before .before .before .pre .engine .state .moves-long)
 
 same-length-8 : tie.Need-same-length-8 Inv-loop μ-loop
-same-length-8 c = c .before .loop .inv .1 .drawn .moved .engine .state .work-long ∙ sym (c .before .before .before .before .before .before .before .before .before .before .before .before .before .before .before .before .before .before .pre  .engine .state .work-long)
+same-length-8 c = c .before .loop .inv .1 .drawn .moved .engine .state .work-long ∙ sym (c .before .before .before .before .before .before .before .before .before .before .before .before .before .before .before .before .before .before .pre .engine .state .work-long)
 
 returns : tie.Need-returns Inv-loop μ-loop
 returns c = (c .before .loop .inv .1 .at-most, c .before .loop .inv .1 .drawn)

@@ -1,0 +1,84 @@
+-- `solver::rounds::finish` meets its contract: each turn brings the measure down, and when nothing is open the answer is accepted (Running).
+-- Assumes nothing.
+use native.Mathlib.Omega.{arith}
+use mathlib.Core.Path.{sym, _∙_}
+use lib.ListN.{length}
+use Rattle.game.specs.Tables.{gameOf}
+use Rattle.game.specs.Answer.{markOf}
+use Rattle.justification.specs.Measure.{measure}
+use Rattle.levels.specs.Levels.{settledOf}
+use Rattle.step.specs.Stepping.{Moved}
+use Rattle.step.proofs.Moving.{moved-none, moved-more}
+use Rattle.solver.proofs.Running.{settled-all, ran-done, ran-spent}
+use borrow.Author.Needs.{needs}
+use Rattle.solver.proofs.rounds.finish.Statement.{statement}
+use Rattle.solver.proofs.rounds.finish.Tie as tie
+
+abbrev Inv-loop : tie.InvT-loop
+Inv-loop owners priorities starts targets heads nexts sources firsts₀ lasts₀ waiting₀ levels₀ winners₀ moves₀ work₀ firsts lasts waiting levels winners moves work = Moved owners priorities starts targets heads nexts sources winners₀ moves₀ work₀ firsts lasts waiting levels winners moves work
+
+abbrev μ-loop : tie.MeasureT-loop
+μ-loop owners priorities starts targets heads nexts sources firsts₀ lasts₀ waiting₀ levels₀ winners₀ moves₀ work₀ firsts lasts waiting levels winners moves work = measure (gameOf owners priorities starts targets) (markOf winners) (settledOf (length owners) work)
+
+loop-holds : tie.Need-loop-holds Inv-loop μ-loop
+loop-holds c = moved-none (c .before .before .before .before .before .before .before .before .before .before .before .before .before .before .pre)
+
+lowest-requires : tie.Need-lowest-requires Inv-loop μ-loop
+lowest-requires c κs = c .before .before .before .before .before .before .before .loop .inv .engine
+
+enum-told : tie.Need-enum-told Inv-loop μ-loop
+enum-told c = search needs
+
+same-length : tie.Need-same-length Inv-loop μ-loop
+same-length c = moved-more (c .before .before .before .before .before .before .before .before .before .before .before .before .before .before .before .before .before .before .before .before .before .before .before .before .loop .inv) (c .before .before .before .before .before .before .before .before .before .before .before .before .before .before .before .before .lowest .ensures .0 .moved) .engine .standing .lines .firsts-long ∙ sym (c .before .before .before .before .before .before .before .before .before .before .before .before .before .before .before .before .before .before .before .before .before .before .before .before .before .before .before .before .before .before .before .before .before .before .before .before .before .before .before .pre .standing .lines .firsts-long)
+
+same-length-2 : tie.Need-same-length-2 Inv-loop μ-loop
+same-length-2 c = moved-more (c .before .before .before .before .before .before .before .before .before .before .before .before .before .before .before .before .before .before .before .before .before .before .before .before .loop .inv) (c .before .before .before .before .before .before .before .before .before .before .before .before .before .before .before .before .lowest .ensures .0 .moved) .engine .standing .lines .lasts-long ∙ sym (c .before .before .before .before .before .before .before .before .before .before .before .before .before .before .before .before .before .before .before .before .before .before .before .before .before .before .before .before .before .before .before .before .before .before .before .before .before .before .before .pre .standing .lines .lasts-long)
+
+same-length-3 : tie.Need-same-length-3 Inv-loop μ-loop
+same-length-3 c = moved-more (c .before .before .before .before .before .before .before .before .before .before .before .before .before .before .before .before .before .before .before .before .before .before .before .before .loop .inv) (c .before .before .before .before .before .before .before .before .before .before .before .before .before .before .before .before .lowest .ensures .0 .moved) .engine .standing .waiting-long ∙ sym (c .before .before .before .before .before .before .before .before .before .before .before .before .before .before .before .before .before .before .before .before .before .before .before .before .before .before .before .before .before .before .before .before .before .before .before .before .before .before .before .pre .standing .waiting-long)
+
+same-length-4 : tie.Need-same-length-4 Inv-loop μ-loop
+same-length-4 c = moved-more (c .before .before .before .before .before .before .before .before .before .before .before .before .before .before .before .before .before .before .before .before .before .before .before .before .loop .inv) (c .before .before .before .before .before .before .before .before .before .before .before .before .before .before .before .before .lowest .ensures .0 .moved) .engine .levels-long ∙ sym (c .before .before .before .before .before .before .before .before .before .before .before .before .before .before .before .before .before .before .before .before .before .before .before .before .before .before .before .before .before .before .before .before .before .before .before .before .before .before .before .pre .levels-long)
+
+same-length-5 : tie.Need-same-length-5 Inv-loop μ-loop
+same-length-5 c = moved-more (c .before .before .before .before .before .before .before .before .before .before .before .before .before .before .before .before .before .before .before .before .before .before .before .before .loop .inv) (c .before .before .before .before .before .before .before .before .before .before .before .before .before .before .before .before .lowest .ensures .0 .moved) .winners-long
+
+same-length-6 : tie.Need-same-length-6 Inv-loop μ-loop
+same-length-6 c = moved-more (c .before .before .before .before .before .before .before .before .before .before .before .before .before .before .before .before .before .before .before .before .before .before .before .before .loop .inv) (c .before .before .before .before .before .before .before .before .before .before .before .before .before .before .before .before .lowest .ensures .0 .moved) .engine .state .moves-long ∙ sym (c .before .before .before .before .before .before .before .before .before .before .before .before .before .before .before .before .before .before .before .before .before .before .before .before .before .before .before .before .before .before .before .before .before .before .before .before .before .before .before .pre .state .moves-long)
+
+same-length-7 : tie.Need-same-length-7 Inv-loop μ-loop
+same-length-7 c = moved-more (c .before .before .before .before .before .before .before .before .before .before .before .before .before .before .before .before .before .before .before .before .before .before .before .before .loop .inv) (c .before .before .before .before .before .before .before .before .before .before .before .before .before .before .before .before .lowest .ensures .0 .moved) .engine .state .work-long ∙ sym (c .before .before .before .before .before .before .before .before .before .before .before .before .before .before .before .before .before .before .before .before .before .before .before .before .before .before .before .before .before .before .before .before .before .before .before .before .before .before .before .pre .state .work-long)
+
+returns : tie.Need-returns Inv-loop μ-loop
+returns c = settled-all (c .before .before .before .before .before .before .before .before .before .before .before .before .before .before .before .before .before .before .before .before .before .before .before .before .before .before .before .before .before .before .before .before .before .before .before .before .before .before .before .pre) (moved-more (c .before .before .before .before .before .before .before .before .before .before .before .before .before .before .before .before .before .before .before .before .before .before .before .before .loop .inv) (c .before .before .before .before .before .before .before .before .before .before .before .before .before .before .before .before .lowest .ensures .0 .moved)) (ran-done (c .enum-told .given .1) (c .before .before .before .before .before .before .before .before .before .before .before .before .before .before .before .before .lowest .ensures .0))
+
+enum-told-2 : tie.Need-enum-told-2 Inv-loop μ-loop
+enum-told-2 c = search needs
+
+loop-less : tie.Need-loop-less Inv-loop μ-loop
+loop-less c = ran-spent (c .enum-told2 .given .1) (omega arith) (c .before .before .before .before .before .before .before .before .before .before .before .before .before .before .before .before .lowest .ensures .1) .less
+
+loop-again : tie.Need-loop-again Inv-loop μ-loop
+loop-again c = moved-more (c .before .before .before .before .before .before .before .before .before .before .before .before .before .before .before .before .before .before .before .before .before .before .before .before .loop .inv) (c .before .before .before .before .before .before .before .before .before .before .before .before .before .before .before .before .lowest .ensures .0 .moved)
+
+pub finish-spec : {M : Type 1} → statement M
+finish-spec =
+    tie.close
+    (tie.spec
+    Inv-loop
+    μ-loop
+    loop-holds
+    lowest-requires
+    enum-told
+    same-length
+    same-length-2
+    same-length-3
+    same-length-4
+    same-length-5
+    same-length-6
+    same-length-7
+    returns
+    enum-told-2
+    loop-less
+    loop-again)
