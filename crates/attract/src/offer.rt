@@ -87,14 +87,14 @@ pub fn offer(
     let bound = at_least(priorities[x], low);
     let winner = mark(winners, u);
     if owners[x] == winner {
-        let level = floor(u, priorities, levels, work);
-        if level < bound {
+        let high = floor(u, priorities, levels, work);
+        if high < bound {
             return Chance::Nothing;
         }
         return Chance::Gets(Line {
             winner,
             to: u as u16,
-            level,
+            level: high,
         });
     }
     let ground = all_for(

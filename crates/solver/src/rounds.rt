@@ -134,7 +134,7 @@ fn finish(
     ensures { λ _. ⌜ SettledTo (now (owners .entry)) (now (priorities .entry)) (now (starts .entry)) (now (targets .entry)) (now (winners .entry)) (now (moves .entry)) (now (work .entry)) (now (winners .exit)) (now (moves .exit)) (now (work .exit)) ⌝ }
 {
     loop {
-        let ended = lowest(
+        let last = lowest(
             1048576,
             owners,
             priorities,
@@ -151,7 +151,7 @@ fn finish(
             moves,
             work,
         );
-        if let Ended::Done = ended {
+        if let Ended::Done = last {
             return;
         }
     }
