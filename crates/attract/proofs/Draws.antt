@@ -1,10 +1,9 @@
 -- An offered line fits, so the step to it is one of the method.
-use Prim.Native.Nat.{ℕ, _<_, _≤_}
+use Prim.Native.Nat.{ℕ, _<_}
 use mathlib.Core.Path.{_≡_, refl, sym, subst, _∙_}
 use mathlib.Core.List.{List}
 use native.Mathlib.Omega.{arith}
-use lib.ListN.{length, getD}
-use Rattle.game.specs.Game.{Edge}
+use lib.ListN.{length}
 use Rattle.game.specs.Tables.{gameOf}
 use Rattle.game.specs.Answer.{markOf, moveOf}
 use Rattle.justification.specs.Safe.{Above, Levelled}
@@ -14,7 +13,7 @@ use Rattle.levels.proofs.Floors.{floor-above}
 use Rattle.step.specs.Stepping.{Engine, Fitting}
 use Rattle.step.specs.Turning.{SteppedIn}
 use Rattle.step.proofs.Steps.{stepped}
-use Rattle.step.proofs.Moving.{moved-none, moved-more}
+use Rattle.step.proofs.Moving.{moved-none}
 use Rattle.attract.specs.Pile.{Pushable, PushedOn}
 use Rattle.attract.specs.Offering.{Grounds, Offerable, Offered, Offers}
 use Rattle.step.specs.declared.test.Line.{Line}

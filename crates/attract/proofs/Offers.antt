@@ -1,12 +1,12 @@
 -- What is offered through u: its owner's move there, or all of x's successors.
 use Prim.Native.Nat.{ℕ, _<_, _≤_}
-use mathlib.Core.Path.{_≡_, refl, sym, ap, subst, _∙_}
+use mathlib.Core.Path.{_≡_, refl, sym, subst}
 use mathlib.Core.Logic.{_≢_}
 use mathlib.Core.List.{List}
 use native.Mathlib.Omega.{arith}
 use lib.ListN.{length, getD}
-use Rattle.game.specs.Game.{Listed, Edge}
-use Rattle.game.specs.Tables.{nextOf, gameOf, Stretch}
+use Rattle.game.specs.Game.{Listed}
+use Rattle.game.specs.Tables.{nextOf, Stretch}
 use Rattle.game.specs.Answer.{markRoom, markOf}
 use Rattle.game.proofs.Starts.{stretch-of}
 use Rattle.winning.specs.Answer.{noMove}
@@ -18,10 +18,10 @@ use Rattle.attract.specs.declared.offer.Ground.the-variants.{Level}
 
 module _ {x u : ℕ} {owners priorities starts targets levels winners work : List ℕ} (p : Offerable x u owners priorities starts targets levels winners work) where
   -- x and u have priorities
-  pub from-seen : x < length priorities
+  from-seen : x < length priorities
   from-seen = omega (arith, p .edge .from, p .well-formed .level)
 
-  pub to-seen : u < length priorities
+  to-seen : u < length priorities
   to-seen = omega (arith, p .edge .to, p .well-formed .level)
 
   pub seen : Seen u priorities levels work

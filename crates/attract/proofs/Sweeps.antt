@@ -1,15 +1,15 @@
 -- Draining the pile and sweeping the lines: the engine goes on.
 use Prim.Native.Nat.{ℕ, _+_, _<_, _≤_}
-use mathlib.Core.Path.{_≡_, refl}
+use mathlib.Core.Path.{_≡_, _∙_}
 use mathlib.Core.List.{List}
 use native.Mathlib.Omega.{arith}
 use lib.ListN.{length, getD}
-use Rattle.attract.specs.Pile.{Piled}
+use Rattle.pick.proofs.Picking.{standing-lines}
+use Rattle.step.proofs.Moving.{moved-more, moved-lines}
 use Rattle.attract.specs.Drawing.{Drainable, Visitable, Drawn}
 use Rattle.attract.specs.Gathering.{Gatherable, Gathered}
 use Rattle.attract.proofs.Piles.{piled-none, piled-less}
 use Rattle.attract.proofs.Visits.{drawn-more}
-use Rattle.step.proofs.Moving.{moved-more, moved-lines}
 
 -- the engine has moved, and no more is left of the budget than there was
 pub record Going (budget left tail : ℕ) (owners priorities starts targets heads nexts sources winners₀ moves₀ work₀ firsts lasts waiting levels stack winners moves work : List ℕ) : Type 0 where
@@ -48,14 +48,7 @@ module _ {owners priorities starts targets heads nexts sources winners₀ moves�
           moved =
               moved-more (d .moved)
               (moved-lines e
-              (record {
-                small = e .standing .small;
-                priorities-long = e .standing .priorities-long;
-                bytes = e .standing .bytes;
-                waiting-long = omega (arith, g .long, e .standing .waiting-long);
-                work-long = e .standing .work-long;
-                lines = g .lines priorities lasts (e .standing .lines);
-              })
+              (standing-lines (e .standing) (g .long ∙ e .standing .waiting-long) (e .standing .work-long) (g .lines priorities lasts (e .standing .lines)))
               (record { waits = λ u l o. g .kept u l o (e .covered .waits u l o) }));
           piled = g .piled;
         }

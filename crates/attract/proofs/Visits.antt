@@ -1,6 +1,6 @@
 -- Walking the edges into u: each is an edge of the game.
 use Prim.Native.Nat.{ℕ, _<_}
-use mathlib.Core.Path.{_≡_, refl, subst}
+use mathlib.Core.Path.{refl}
 use mathlib.Core.List.{List}
 use lib.ListN.{length, getD}
 use Rattle.game.specs.Game.{Edge}

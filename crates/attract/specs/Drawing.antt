@@ -1,6 +1,5 @@
 -- What attracting asks and gives: the engine goes on, and the pile holds vertices. Whom it attracts, and when, decides only how soon all is settled.
 use Prim.Native.Nat.{ℕ, _<_}
-use mathlib.Core.Path.{_≡_}
 use mathlib.Core.List.{List}
 use lib.ListN.{length}
 use Rattle.game.specs.Game.{Edge}
@@ -13,12 +12,12 @@ pub record Drainable (tail : ℕ) (owners priorities starts targets heads nexts 
   pub engine : Engine owners priorities starts targets heads nexts sources firsts lasts waiting levels winners moves work
   pub piled : Piled (length owners) stack tail
 
--- the same, and a vertex
+-- the engine, a pile, and a vertex
 pub record Visitable (u tail : ℕ) (owners priorities starts targets heads nexts sources firsts lasts waiting levels stack winners moves work : List ℕ) : Type 0 where
   pub drainable : Drainable tail owners priorities starts targets heads nexts sources firsts lasts waiting levels stack winners moves work
   pub vertex : u < length owners
 
--- the same, and an edge
+-- the engine, a pile, and an edge
 pub record Drawable (x u tail : ℕ) (owners priorities starts targets heads nexts sources firsts lasts waiting levels stack winners moves work : List ℕ) : Type 0 where
   pub drainable : Drainable tail owners priorities starts targets heads nexts sources firsts lasts waiting levels stack winners moves work
   pub edge : Edge (gameOf owners priorities starts targets) x u

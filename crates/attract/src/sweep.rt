@@ -4,7 +4,9 @@ use crate::drain::drain;
 use crate::pile::larger;
 use crate::pile::push;
 use pick::front;
+ghost use mathlib.Core.Path.{_≡_};
 ghost use Prim.Native.Nat.{_≤_};
+ghost use lib.ListN.{length};
 ghost use Rattle.attract.specs.Gathering.{Gatherable, Gathered, Lookable, Looked};
 ghost use Rattle.attract.specs.Drawing.{Drainable, Drawn};
 
@@ -57,6 +59,22 @@ fn capped(top: usize) -> usize
     if top < 256 { top } else { 256 }
 }
 
+// The highest line below p that has somebody, plus 1; or 0.
+fn below(firsts: &[u16], p: usize) -> usize
+    requires { ⌜ (length (now firsts) ≡ 256) × (p ≤ 256) ⌝ }
+    ensures { λ r. ⌜ r ≤ p ⌝ }
+{
+    let mut q = p;
+    while 0 < q {
+        let k = q - 1;
+        if firsts[k] != 65535 {
+            return q;
+        }
+        q = k;
+    }
+    0
+}
+
 // From the priority below `top` down to 0: attracts from the new open vertices, and nothing below their priority is leaned on.
 pub fn sweep(
     top: usize,
@@ -86,7 +104,14 @@ pub fn sweep(
     let mut high = 0;
     let mut p = capped(top);
     while 0 < p {
-        p -= 1;
+        let q = below(firsts, p);
+        if q == 0 {
+            return Left {
+                budget: left,
+                top: high,
+            };
+        }
+        p = q - 1;
         let tail = gather(n, p, firsts, waiting, stack, work);
         let drained = drain(
             tail,

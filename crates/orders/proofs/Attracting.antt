@@ -5,15 +5,13 @@ use mathlib.Core.List.{List}
 use native.Mathlib.Decide.{decLt}
 use native.Mathlib.Omega.{arith}
 use lib.ListN.{length}
-use Rattle.reach.specs.Work.{section}
 use Rattle.pick.specs.declared.Picked.{Picked}
 use Rattle.pick.specs.declared.Picked.the-variants.{At, Nothing}
 use Rattle.pick.specs.Order.{Picks}
-use Rattle.step.specs.Stepping.{LeastSteppable, LeastStepped}
+use Rattle.step.proofs.Least.{LeastStepped}
 use Rattle.step.proofs.Moving.{moved-more}
-use Rattle.attract.specs.Pile.{Piled, Pushable, PushedOn}
+use Rattle.attract.specs.Pile.{Pushable, PushedOn}
 use Rattle.attract.specs.Drawing.{Drainable, Drawn}
-use Rattle.attract.proofs.Visits.{drawn-more}
 use Rattle.orders.specs.declared.Ended.the-variants.{Done}
 use Rattle.orders.specs.Ending.{Probable, Ran}
 use Rattle.orders.proofs.Running.{none-below-zero, picked-moved, picked-least, picked-all}

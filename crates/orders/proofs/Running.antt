@@ -1,10 +1,9 @@
 -- Steps of an order one after the other, from a pick to the next.
 use Prim.Native.Nat.{ℕ, _<_, _≤_}
-use mathlib.Core.Path.{_≡_, refl, sym, subst, _∙_}
-use mathlib.Core.Logic.{_≢_}
+use mathlib.Core.Path.{_≡_}
 use mathlib.Core.List.{List}
 use native.Mathlib.Omega.{arith}
-use lib.ListN.{length, getD}
+use lib.ListN.{length}
 use Rattle.game.specs.Tables.{gameOf}
 use Rattle.game.specs.Answer.{markOf}
 use Rattle.justification.specs.Measure.{measure}
@@ -14,7 +13,8 @@ use Rattle.pick.specs.declared.Picked.the-variants.{At, Nothing}
 use Rattle.pick.specs.Order.{LeastOpen, AllSettled, NoneBelow, Pickable, Picks}
 use Rattle.pick.proofs.Picking.{picked-at, picked-nothing, covered-dropped, standing-dropped}
 use Rattle.levels.specs.Levels.{settledOf}
-use Rattle.step.specs.Stepping.{Engine, Moved, Falls, LeastSteppable, LeastStepped}
+use Rattle.step.specs.Stepping.{Engine, Moved, Falls}
+use Rattle.step.proofs.Least.{LeastSteppable, LeastStepped}
 use Rattle.step.proofs.Moving.{moved-none, moved-more, moved-lines}
 use Rattle.orders.specs.declared.Ended.the-variants.{Done}
 use Rattle.orders.specs.Ending.{Ran}

@@ -7,7 +7,8 @@ use attract::pile::push;
 use attract::sweep::sweep;
 use pick::Picked;
 use pick::pick;
-use step::step_least;
+use step::step;
+use step::test::test;
 ghost use Prim.Native.Nat.{_<_, _≤_};
 ghost use Rattle.attract.specs.Drawing.{Drainable, Drawn};
 ghost use Rattle.orders.specs.Ending.{Probable, Ran};
@@ -42,12 +43,13 @@ fn probe(
     ensures left { λ r. ⌜ (r .budget ≤ budget) × (0 < budget → r .budget < budget) ⌝ }
     ensures moved { λ r. ⌜ Drawn 0 (now (owners .entry)) (now (priorities .entry)) (now (starts .entry)) (now (targets .entry)) (now (heads .entry)) (now (nexts .entry)) (now (sources .entry)) (now (winners .entry)) (now (moves .entry)) (now (work .entry)) (now (firsts .exit)) (now (lasts .exit)) (now (waiting .exit)) (now (levels .exit)) (now (stack .exit)) (now (winners .exit)) (now (moves .exit)) (now (work .exit)) ⌝ }
 {
-    let above = priorities[v] as usize + 1;
-    step_least(
+    let own = priorities[v] as usize;
+    let line = test(v, owners, priorities, starts, targets, winners);
+    step(
         v,
-        owners,
+        line,
+        own,
         priorities,
-        starts,
         targets,
         heads,
         nexts,
@@ -83,7 +85,7 @@ fn probe(
     );
     Left {
         budget: drained.budget,
-        top: larger(drained.top, above),
+        top: larger(drained.top, own + 1),
     }
 }
 

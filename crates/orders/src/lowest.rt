@@ -1,8 +1,9 @@
-// Lowest first: again and again an open vertex of least priority.
+// Lowest first: again and again an open vertex of least priority gets the line that the test gives. It is always eligible.
 use crate::Ended;
 use pick::Picked;
 use pick::pick;
-use step::step_least;
+use step::step;
+use step::test::test;
 ghost use Rattle.step.specs.Stepping.{Engine};
 ghost use Rattle.orders.specs.Ending.{Ran, Fell};
 
@@ -36,11 +37,12 @@ pub fn lowest(
         let Picked::At(v) = picked else {
             return Ended::Done;
         };
-        low = step_least(
+        let line = test(v, owners, priorities, starts, targets, winners);
+        low = step(
             v,
-            owners,
+            line,
+            priorities[v] as usize,
             priorities,
-            starts,
             targets,
             heads,
             nexts,

@@ -5,6 +5,7 @@ use mathlib.Core.List.{List}
 use native.Mathlib.Omega.{arith}
 use lib.ListN.{length}
 use Rattle.game.proofs.Stores.{room-is}
+use Rattle.pick.proofs.Picking.{standing-lines}
 use Rattle.step.specs.Stepping.{Engine, Moved}
 use Rattle.restart.specs.Restarting.{Restartable, RestartedIn}
 use Rattle.restart.proofs.Resets.{safe, levelled, carried}
@@ -17,15 +18,15 @@ module _
     level = s .state .well-formed .level
 
     -- the fresh start asks what the engine has
-    pub restartable : {stack : List ℕ} → length stack ≡ 2048 → Restartable (length priorities) priorities targets heads nexts sources firsts lasts waiting levels stack winners work
-    restartable long =
+    pub restartable : Restartable (length priorities) priorities targets heads nexts sources moves firsts lasts waiting levels winners work
+    restartable =
         rw level
         (record {
           standing = s .standing;
           covered = s .covered;
           room = s .state .winners-long;
           levels-long = omega (arith, s .levels-long, s .standing .small);
-          stack-long = long;
+          moves-long = s .state .moves-long;
           unmarked = s .state .unmarked;
           preds = s .preds;
         })
@@ -33,7 +34,7 @@ module _
     -- and gives an engine in which every kept set is kept
     pub restarted-moved :
         {firsts′ lasts′ waiting′ levels′ winners′ work′ : List ℕ} →
-        RestartedIn (length priorities) priorities targets sources levels winners work firsts′ lasts′ waiting′ levels′ winners′ work′ →
+        RestartedIn (length priorities) priorities targets sources moves levels winners work firsts′ lasts′ waiting′ levels′ winners′ work′ →
         Moved owners priorities starts targets heads nexts sources winners moves work firsts′ lasts′ waiting′ levels′ winners′ moves work′
     restarted-moved {firsts′} {lasts′} {waiting′} {levels′} {winners′} {work′} t₀ =
         record {
@@ -50,15 +51,7 @@ module _
                     };
                 preds = s .preds;
                 edges = s .edges;
-                standing =
-                    record {
-                      small = s .standing .small;
-                      priorities-long = s .standing .priorities-long;
-                      bytes = s .standing .bytes;
-                      waiting-long = t .waiting-long;
-                      work-long = t .long ∙ s .state .work-long;
-                      lines = t .lines;
-                    };
+                standing = standing-lines (s .standing) (t .waiting-long) (t .long ∙ s .state .work-long) (t .lines);
                 covered = t .covered;
                 levels-long = omega (arith, t .levels-long, s .levels-long);
                 levelled = levelled s t;
@@ -67,5 +60,5 @@ module _
           carried = carried s t;
         }
       where
-        t : RestartedIn (length owners) priorities targets sources levels winners work firsts′ lasts′ waiting′ levels′ winners′ work′
-        t = subst (λ (x : ℕ). RestartedIn x priorities targets sources levels winners work firsts′ lasts′ waiting′ levels′ winners′ work′) level t₀
+        t : RestartedIn (length owners) priorities targets sources moves levels winners work firsts′ lasts′ waiting′ levels′ winners′ work′
+        t = subst (λ (x : ℕ). RestartedIn x priorities targets sources moves levels winners work firsts′ lasts′ waiting′ levels′ winners′ work′) level t₀

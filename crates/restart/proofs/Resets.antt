@@ -1,31 +1,31 @@
--- A fresh start opens a set again that holds whatever leads into it: the state stays safe and levelled, and every kept set is kept.
+-- A fresh start opens a set again that holds whatever leans on it: the state stays safe and levelled, and every kept set is kept.
 use Prim.Native.Nat.{ℕ, _<_}
-use mathlib.Core.Path.{_≡_, refl, _∙_}
+use mathlib.Core.Path.{_≡_, refl}
 use mathlib.Core.List.{List}
 use native.Mathlib.Decide.{ℕ-discrete}
 use lib.ListN.{length, getD}
 use Rattle.game.specs.Game.{Game, Edge}
 use Rattle.game.specs.Tables.{gameOf}
 use Rattle.game.specs.Answer.{markOf, moveOf}
-use Rattle.winning.specs.Walk.{follow}
-use Rattle.justification.specs.Safe.{Safe, Levelled}
+use Rattle.winning.specs.Walk.{follow, follow-back}
+use Rattle.justification.specs.Safe.{Support, Safe, Above, Levelled}
 use Rattle.justification.specs.Step.{Same, Reset, Downward}
 use Rattle.justification.proofs.Lines.{within}
-use Rattle.justification.proofs.ResetStep.{resets}
-use Rattle.justification.proofs.Started.{never-reopened}
-use Rattle.reach.specs.Lists.{Into}
+use Rattle.justification.proofs.ResetStep.{resets, reset-above}
+use Rattle.reach.specs.Closure.{Allowed}
 use Rattle.reach.specs.Work.{section}
 use Rattle.levels.specs.Levels.{settledOf, levelOf}
 use Rattle.levels.proofs.Flags.{flag-settled, settled-flag, same-settled}
 use Rattle.step.specs.State.{KeptSet, Carried}
 use Rattle.step.specs.Stepping.{Engine}
+use Rattle.step.proofs.Supports.{allowed}
 use Rattle.step.proofs.Carry.{carried-same}
 use Rattle.restart.specs.Restarting.{RestartedIn}
 
 module _
     {owners priorities starts targets heads nexts sources firsts lasts waiting levels winners moves work firsts′ lasts′ waiting′ levels′ winners′ work′ : List ℕ}
     (s : Engine owners priorities starts targets heads nexts sources firsts lasts waiting levels winners moves work)
-    (t : RestartedIn (length owners) priorities targets sources levels winners work firsts′ lasts′ waiting′ levels′ winners′ work′)
+    (t : RestartedIn (length owners) priorities targets sources moves levels winners work firsts′ lasts′ waiting′ levels′ winners′ work′)
   where
     abbrev g : Game
     g = gameOf owners priorities starts targets
@@ -33,20 +33,25 @@ module _
     abbrev n : ℕ
     n = length owners
 
-    -- the set: whatever leads to an open vertex
+    -- the set: whatever leans on an open vertex
     abbrev R : ℕ → Type 0
     R u = getD (t .reached) u 0 ≡ 1
 
-    -- it holds where an edge into it starts
-    back : (u w : ℕ) → Edge g u w → R w → R u
-    back u w e one = t .open-reached .closed u w (s .edges .number owners priorities refl u w e) one
+    abbrev Old : ℕ → ℕ → Type 0
+    Old = Support g (markOf winners) (moveOf moves) (settledOf n work)
+
+    -- it holds where a support step into it starts
+    back : (u w : ℕ) → Old u w → R w → R u
+    back u w e one =
+        t .open-reached .closed u w
+        (allowed owners priorities starts targets winners moves work sources (s .state .well-formed .sound) (s .edges) (s .state .safe) u w e) one
 
     -- the rest is as before
     same : (u : ℕ) → u < n → ¬ R u → Same (markOf winners) (moveOf moves) (settledOf n work) (markOf winners′) (moveOf moves) (settledOf n work′) u
     same u l out = record { marked = t .same-mark u l out; moved = refl; flag = same-settled n work work′ u (t .same-flag u l out) }
 
     downward : Downward g (markOf winners) (moveOf moves) (settledOf n work) R
-    downward = record { decided = λ u l. ℕ-discrete (getD (t .reached) u 0) 1; closed = λ u w e one. back u w (e .edge) one }
+    downward = record { decided = λ u l. ℕ-discrete (getD (t .reached) u 0) 1; closed = back }
 
     reset : Reset (markOf winners) (moveOf moves) (settledOf n work) (markOf winners′) (moveOf moves) (settledOf n work′) g R
     reset =
@@ -61,24 +66,24 @@ module _
     pub safe : Safe g (markOf winners′) (moveOf moves) (settledOf n work′)
     safe = resets g _ _ _ _ _ _ R downward reset (s .state .safe)
 
-    -- what is outside is settled, since every open vertex was inside
-    settled : (u : ℕ) → u < n → ¬ R u → settledOf n work′ u ≡ 1
-    settled u l out =
-        elim (ℕ-discrete (getD (section 0 n work) u 0) 0) [ yes z ↦ flag-settled n work′ u (t .same-flag u l out ∙ z) | no o ↦ absurd (out (t .open-reached .itself u l o)) ]
+    -- from outside no support step leads to an open vertex
+    firm : {v : ℕ} (k : ℕ) → v < n → ¬ R v → Above g (markOf winners) (moveOf moves) (settledOf n work) v k
+    firm k l out =
+        record {
+          high =
+              λ u w o.
+              let end : u < n = within g (markOf winners) (moveOf moves) (settledOf n work) l w in
+              absurd (out (follow-back R back (t .open-reached .itself u end (λ z. o (flag-settled n work u z))) w));
+        }
 
-    -- what is settled is outside, so its support leads to no open vertex
+    -- what is settled is outside
     pub levelled : Levelled g (markOf winners′) (moveOf moves) (settledOf n work′) (levelOf levels′)
     levelled =
         record {
           above =
               λ v l f.
-              record {
-                high =
-                    λ u w o.
-                    absurd
-                    (never-reopened g (markOf winners′) (moveOf moves) (settledOf n work′) (λ x. ¬ R x) u v (λ x y out e one. out (back x y e one)) settled
-                    (within g (markOf winners′) (moveOf moves) (settledOf n work′) l w) o (λ one. reset .reopened v l one .0 f) w);
-              };
+              let out : ¬ R v = λ one. reset .reopened v l one .0 f in
+              reset-above g _ _ _ _ _ _ R downward reset l out (firm (levelOf levels′ v) l out);
         }
 
     -- edges lead from a kept vertex to kept ones alone, so to no open one
@@ -88,9 +93,9 @@ module _
         let k : (leads .0 < n) × (getD kept (leads .0) 0 ≡ 1) = follow (λ y. (y < n) × (getD kept y 0 ≡ 1)) stays (l, one) (leads .2) in
         leads .1 (settled-flag n work (leads .0) (h .settled (leads .0) (k .0) (k .1)))
       where
-        stays : (x y : ℕ) → Into targets sources x y → (x < n) × (getD kept x 0 ≡ 1) → (y < n) × (getD kept y 0 ≡ 1)
+        stays : (x y : ℕ) → Allowed targets sources (section 0 n work) moves 0 x y → (x < n) × (getD kept x 0 ≡ 1) → (y < n) × (getD kept y 0 ≡ 1)
         stays x y i k =
-            let e : Edge g x y = s .edges .edge owners priorities refl x y i in
+            let e : Edge g x y = s .edges .edge owners priorities refl x y (i .edge) in
             (e .to, h .closed x y (k .1) e)
 
     pub carried : Carried owners priorities starts targets winners moves work winners′ moves work′

@@ -1,44 +1,28 @@
 -- A fresh start: the seeds, the closure, the reopening and the stores, one after the other, said of the lists alone.
-use Prim.Native.Nat.{ℕ, _*_, _-_, _<_, _≤_}
+use Prim.Native.Nat.{ℕ, _*_, _<_}
 use mathlib.Core.Path.{_≡_, sym, ap, subst, _∙_}
 use mathlib.Core.Logic.{_≢_}
 use mathlib.Core.List.{List}
 use native.Mathlib.Omega.{arith}
-use lib.ListN.{length, getD, take}
-use lib.Seq.{length-take-le, getD-take}
-use Rattle.reach.specs.Lists.{nil, Filled}
+use lib.ListN.{length, getD}
 use Rattle.reach.specs.Work.{section}
 use Rattle.reach.specs.Queue.{ClosableIn, ClosedIn, ClearableIn, ClearedIn}
 use Rattle.reach.proofs.Sections.{section-long}
 use Rattle.pick.specs.Lines.{Lines}
+use Rattle.pick.proofs.Picking.{standing-lines}
 use Rattle.step.specs.Parts.{Reopenable, Reopened}
 use Rattle.restart.specs.Restarting.{Seedable, SeededAll, Firmable, Firmed, Restartable, RestartedIn}
 use Rattle.restart.proofs.Reaches.{open-reached}
 
--- the part `0..n` of a list
-abbrev part : ℕ → List ℕ → List ℕ
-part n cells = take (n - 0) cells
-
-module _ (n : ℕ) (cells : List ℕ) (room : n ≤ length cells) where
-  part-long : length (part n cells) ≡ n
-  part-long = length-take-le (n - 0) cells (omega arith) ∙ omega arith
-
-  part-filled : {x : ℕ} → Filled cells x → Filled (part n cells) x
-  part-filled f =
-      record { all = λ i l. let h : i < n = omega (arith, part-long) in getD-take (n - 0) cells i 0 (omega arith) ∙ f .all i (omega arith) }
-
 module _
-    {n : ℕ} {priorities targets heads nexts sources firsts lasts waiting levels stack winners work : List ℕ}
-    (p : Restartable n priorities targets heads nexts sources firsts lasts waiting levels stack winners work)
+    {n : ℕ} {priorities targets heads nexts sources moves firsts lasts waiting levels winners work : List ℕ}
+    (p : Restartable n priorities targets heads nexts sources moves firsts lasts waiting levels winners work)
   where
     pub seedable : Seedable n work
     seedable = record { small = p .standing .small; long = p .standing .work-long; unmarked = p .unmarked }
 
-    module _ {stack₁ work₁ : List ℕ} {tail : ℕ} (same : length stack₁ ≡ length stack) (free : Filled stack₁ nil) (s : SeededAll n work work₁ tail) where
-      room : n ≤ length stack₁
-      room = omega (arith, p .stack-long, p .standing .small)
-
-      pub closable : ClosableIn n targets heads nexts sources (part n stack₁) work₁ tail
+    module _ {work₁ : List ℕ} {tail : ℕ} (s : SeededAll n work work₁ tail) where
+      pub closable : ClosableIn n targets heads nexts sources moves work₁ tail
       closable =
           let long = s .beside .long ∙ p .standing .work-long in
           record {
@@ -48,12 +32,12 @@ module _
                   preds = p .preds;
                   small = p .standing .small;
                   level-long = section-long n work₁ long 0 (omega arith);
-                  choice-long = part-long n stack₁ room;
+                  choice-long = p .moves-long;
                   queued = s .queued;
                 };
           }
 
-      module _ {work₂ : List ℕ} {end : ℕ} (c : ClosedIn n targets sources (part n stack₁) 0 work₁ work₂ end) where
+      module _ {work₂ : List ℕ} {end : ℕ} (c : ClosedIn n targets sources moves 0 work₁ work₂ end) where
         flags : section 0 n work₂ ≡ section 0 n work
         flags = c .beside .levels ∙ s .beside .levels
 
@@ -61,14 +45,8 @@ module _
         reopenable =
             record {
               standing =
-                  record {
-                    small = p .standing .small;
-                    priorities-long = p .standing .priorities-long;
-                    bytes = p .standing .bytes;
-                    waiting-long = p .standing .waiting-long;
-                    work-long = c .beside .long ∙ s .beside .long ∙ p .standing .work-long;
-                    lines = rw (c .beside .spare ∙ s .beside .spare) (p .standing .lines);
-                  };
+                  standing-lines (p .standing) (p .standing .waiting-long) (c .beside .long ∙ s .beside .long ∙ p .standing .work-long)
+                  (rw (c .beside .spare ∙ s .beside .spare) (p .standing .lines));
               covered = rw flags (p .covered);
               room = p .room;
               queued = c .closed .queued;
@@ -96,11 +74,11 @@ module _
             blank : (u : ℕ) → u < n → getD (section 1 n work₂) u 0 ≢ 1 → getD (section 1 n work₃) u 0 ≡ 0
             blank u l out = ap (λ (k : List ℕ). getD k u 0) (r .marks) ∙ omega (arith, c .closed .queued .flag u l)
 
-            pub restarted : {levels′ : List ℕ} → Firmed n levels work₃ levels′ → RestartedIn n priorities targets sources levels winners work firsts′ lasts′ waiting′ levels′ winners′ work′
+            pub restarted : {levels′ : List ℕ} → Firmed n levels work₃ levels′ → RestartedIn n priorities targets sources moves levels winners work firsts′ lasts′ waiting′ levels′ winners′ work′
             restarted f =
                 record {
                   reached = section 1 n work₂;
-                  open-reached = open-reached (p .preds) (part-long n stack₁ room) (part-filled n stack₁ room free) s c;
+                  open-reached = open-reached (p .preds) s c;
                   room = r .room;
                   long = long-kept;
                   waiting-long = omega (arith, r .waiting-long, p .standing .waiting-long);

@@ -6,8 +6,8 @@ use mathlib.Core.List.{List}
 use lib.ListN.{length, getD}
 use Rattle.game.specs.Answer.{markRoom, markOf}
 use Rattle.winning.specs.Walk.{Walk}
-use Rattle.reach.specs.Lists.{Filled, Preds, Into}
-use Rattle.reach.specs.Closure.{Queued}
+use Rattle.reach.specs.Lists.{Filled, Preds}
+use Rattle.reach.specs.Closure.{Allowed, Queued}
 use Rattle.reach.specs.Work.{section, Beside}
 use Rattle.pick.specs.Lines.{Lines, Covered}
 use Rattle.pick.specs.Moves.{Standing}
@@ -39,25 +39,25 @@ pub record Firmed (n : ℕ) (levels work levels′ : List ℕ) : Type 0 where
   pub firm : (v : ℕ) → v < n → getD (section 1 n work) v 0 ≡ 0 → levelOf levels′ v ≡ 256
 
 -- the lines, in which every open vertex waits, and room for everything
-pub record Restartable (n : ℕ) (priorities targets heads nexts sources firsts lasts waiting levels stack winners work : List ℕ) : Type 0 where
+pub record Restartable (n : ℕ) (priorities targets heads nexts sources moves firsts lasts waiting levels winners work : List ℕ) : Type 0 where
   pub standing : Standing n priorities firsts lasts waiting work
   pub covered : Covered n (section 0 n work) waiting
   pub room : markRoom winners ≡ n
   pub levels-long : n ≤ length levels
-  pub stack-long : length stack ≡ 2048
+  pub moves-long : length moves ≡ n
   pub unmarked : Filled (section 1 n work) 0
   pub preds : Preds n targets heads nexts sources
 
--- `reached` marks the vertices from which edges lead to an open one
-pub record OpenReached (n : ℕ) (targets sources flags reached : List ℕ) : Type 0 where
+-- `reached` marks the vertices from which steps out of settled vertices, to their moves if they have one, lead to an open one
+pub record OpenReached (n : ℕ) (targets sources flags moves reached : List ℕ) : Type 0 where
   pub itself : (u : ℕ) → u < n → getD flags u 0 ≢ 0 → getD reached u 0 ≡ 1
-  pub closed : (u w : ℕ) → Into targets sources u w → getD reached w 0 ≡ 1 → getD reached u 0 ≡ 1
-  pub leads : (u : ℕ) → u < n → getD reached u 0 ≡ 1 → (w : ℕ) × (getD flags w 0 ≢ 0) × Walk (Into targets sources) u w
+  pub closed : (u w : ℕ) → Allowed targets sources flags moves 0 u w → getD reached w 0 ≡ 1 → getD reached u 0 ≡ 1
+  pub leads : (u : ℕ) → u < n → getD reached u 0 ≡ 1 → (w : ℕ) × (getD flags w 0 ≢ 0) × Walk (Allowed targets sources flags moves 0) u w
 
 -- those are open, and the rest is as before, with levels above all priorities
-pub record RestartedIn (n : ℕ) (priorities targets sources levels winners work firsts′ lasts′ waiting′ levels′ winners′ work′ : List ℕ) : Type 0 where
+pub record RestartedIn (n : ℕ) (priorities targets sources moves levels winners work firsts′ lasts′ waiting′ levels′ winners′ work′ : List ℕ) : Type 0 where
   pub reached : List ℕ
-  pub open-reached : OpenReached n targets sources (section 0 n work) reached
+  pub open-reached : OpenReached n targets sources (section 0 n work) moves reached
   pub room : markRoom winners′ ≡ markRoom winners
   pub long : length work′ ≡ length work
   pub waiting-long : length waiting′ ≡ 2048

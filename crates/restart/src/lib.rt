@@ -1,6 +1,5 @@
-// A fresh start: what cannot reach an open vertex is decided for good and stays, and everything else is opened again.
+// A fresh start: what does not lean on an open vertex is decided for good and stays, and everything else is opened again.
 use levels::set_level;
-use reach::cells::fill;
 use reach::closure::clear;
 use reach::closure::close;
 use reach::closure::seed;
@@ -38,38 +37,27 @@ fn make_firm(n: usize, levels: &mut [u16], work: &[u16])
     }
 }
 
-// `stack` is overwritten: it says that a step may follow any edge.
+// Opens again all that leans on an open vertex.
 pub fn restart(
     priorities: &[u8],
     targets: &[u16],
     heads: &[u16],
     nexts: &[u16],
     sources: &[u16],
+    moves: &[u16],
     firsts: &mut [u16],
     lasts: &mut [u16],
     waiting: &mut [u16],
     levels: &mut [u16],
-    stack: &mut [u16],
     winners: &mut [u8],
     work: &mut [u16],
 )
-    requires { ⌜ Restartable (length (now priorities)) (now priorities) (now targets) (now heads) (now nexts) (now sources) (now firsts) (now lasts) (now waiting) (now levels) (now stack) (now winners) (now work) ⌝ }
-    ensures { λ _. ⌜ RestartedIn (length (now (priorities .entry))) (now (priorities .entry)) (now (targets .entry)) (now (sources .entry)) (now (levels .entry)) (now (winners .entry)) (now (work .entry)) (now (firsts .exit)) (now (lasts .exit)) (now (waiting .exit)) (now (levels .exit)) (now (winners .exit)) (now (work .exit)) ⌝ }
+    requires { ⌜ Restartable (length (now priorities)) (now priorities) (now targets) (now heads) (now nexts) (now sources) (now moves) (now firsts) (now lasts) (now waiting) (now levels) (now winners) (now work) ⌝ }
+    ensures { λ _. ⌜ RestartedIn (length (now (priorities .entry))) (now (priorities .entry)) (now (targets .entry)) (now (sources .entry)) (now (moves .entry)) (now (levels .entry)) (now (winners .entry)) (now (work .entry)) (now (firsts .exit)) (now (lasts .exit)) (now (waiting .exit)) (now (levels .exit)) (now (winners .exit)) (now (work .exit)) ⌝ }
 {
     let n = priorities.len();
-    fill(stack, 65535);
     let tail = seed_open(n, work);
-    let end = close(
-        n,
-        targets,
-        heads,
-        nexts,
-        sources,
-        0,
-        &stack[0..n],
-        work,
-        tail,
-    );
+    let end = close(n, targets, heads, nexts, sources, 0, moves, work, tail);
     reopen(n, priorities, firsts, lasts, waiting, winners, work, end, 0);
     make_firm(n, levels, work);
     clear(n, work, end);

@@ -210,11 +210,11 @@ pub fn run(
             heads,
             nexts,
             sources,
+            moves,
             firsts,
             lasts,
             waiting,
             levels,
-            stack,
             winners,
             work,
         );

@@ -10,13 +10,24 @@ use Rattle.game.specs.Answer.{markOf, moveOf}
 use Rattle.justification.specs.Safe.{Eligible}
 use Rattle.justification.proofs.Eligible.{least-eligible}
 use Rattle.reach.specs.Work.{section}
-use Rattle.pick.specs.Order.{NoneBelow}
+use Rattle.pick.specs.Order.{LeastOpen, NoneBelow}
 use Rattle.levels.specs.Levels.{settledOf}
 use Rattle.levels.proofs.Flags.{flag-settled, settled-flag}
 use Rattle.step.specs.Parts.{Testable, TestedBy}
-use Rattle.step.specs.Stepping.{Fitting, LeastSteppable, LeastStepped}
+use Rattle.step.specs.Stepping.{Engine, Fitting, Moved, Falls}
 use Rattle.step.specs.Turning.{SteppedIn}
 use Rattle.step.proofs.Steps.{stepped}
+
+-- the engine, and an open vertex of least priority
+pub record LeastSteppable (v : ℕ) (owners priorities starts targets heads nexts sources firsts lasts waiting levels winners moves work : List ℕ) : Type 0 where
+  pub engine : Engine owners priorities starts targets heads nexts sources firsts lasts waiting levels winners moves work
+  pub least : LeastOpen (length owners) priorities (section 0 (length owners) work) v
+
+-- the engine after one step, with a smaller measure; nothing below `low` is open
+pub record LeastStepped (owners priorities starts targets heads nexts sources winners moves work firsts′ lasts′ waiting′ levels′ winners′ moves′ work′ : List ℕ) (low : ℕ) : Type 0 where
+  pub moved : Moved owners priorities starts targets heads nexts sources winners moves work firsts′ lasts′ waiting′ levels′ winners′ moves′ work′
+  pub falls : Falls owners priorities starts targets winners work winners′ work′
+  pub none-below : NoneBelow (length owners) priorities (section 0 (length owners) work′) low
 
 module _
     (v : ℕ) (owners priorities starts targets heads nexts sources firsts lasts waiting levels winners moves work : List ℕ)

@@ -4,7 +4,6 @@ use mathlib.Core.Path.{sym, ap, subst, _∙_}
 use mathlib.Core.List.{List}
 use native.Mathlib.Omega.{arith}
 use lib.ListN.{getD, set}
-use Rattle.reach.specs.Work.{section}
 use Rattle.pick.specs.Lines.{Lines}
 use Rattle.pick.specs.Moves.{Standable, StoodIn}
 use Rattle.step.specs.Parts.{FlagSet, OpenedIn}

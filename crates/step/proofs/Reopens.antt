@@ -14,6 +14,7 @@ use Rattle.reach.proofs.Sections.{section-read}
 use Rattle.reach.proofs.Queues.{tail-bounded}
 use Rattle.pick.specs.Lines.{Lines, Covered}
 use Rattle.pick.specs.Moves.{Standable}
+use Rattle.pick.proofs.Picking.{standing-lines}
 use Rattle.step.specs.Parts.{Opened, OpenedIn, Reopenable, Reopened}
 
 -- the first i of the queue are open again, what is not marked is as before, every open vertex waits, and low is at most `from`
@@ -66,15 +67,7 @@ module _ {n : ℕ} {priorities firsts₀ lasts₀ waiting₀ winners₀ work₀ 
     pub reopening-standable : i < tail → Standable n (getD work (2 * n + i) 0) priorities firsts lasts waiting work
     reopening-standable l =
         record {
-          standing =
-              record {
-                small = p .standing .small;
-                priorities-long = p .standing .priorities-long;
-                bytes = p .standing .bytes;
-                waiting-long = omega (arith, r .waiting-long, p .standing .waiting-long);
-                work-long = long;
-                lines = r .lines;
-              };
+          standing = standing-lines (p .standing) (r .waiting-long ∙ p .standing .waiting-long) long (r .lines);
           vertex = reopening-vertex l;
         }
 

@@ -1,5 +1,5 @@
 -- A step of the lists is a step of the method: it keeps the state safe and levelled, makes the measure fall and carries every kept set.
-use Prim.Native.Nat.{ℕ, _<_, _≤_}
+use Prim.Native.Nat.{ℕ, _<_}
 use mathlib.Core.Path.{_≡_, refl, sym, subst, _∙_}
 use mathlib.Core.Logic.{_≢_}
 use mathlib.Core.List.{List}
@@ -21,6 +21,7 @@ use Rattle.justification.proofs.Started.{never-reopened}
 use Rattle.reach.specs.Lists.{Filled}
 use Rattle.reach.specs.Work.{section}
 use Rattle.pick.specs.Lines.{Lines, Covered}
+use Rattle.pick.proofs.Picking.{standing-lines}
 use Rattle.levels.specs.Levels.{settledOf, levelOf}
 use Rattle.levels.proofs.Flags.{flag-settled, settled-flag, same-settled}
 use Rattle.step.specs.State.{KeptSet}
@@ -89,15 +90,7 @@ module _
                 };
             preds = s .preds;
             edges = s .edges;
-            standing =
-                record {
-                  small = s .standing .small;
-                  priorities-long = s .standing .priorities-long;
-                  bytes = s .standing .bytes;
-                  waiting-long = waiting-long;
-                  work-long = work-long ∙ t .work-long;
-                  lines = lines;
-                };
+            standing = standing-lines (s .standing) waiting-long (work-long ∙ t .work-long) lines;
             covered = covered;
             levels-long = omega (arith, levels-long, s .levels-long);
             levelled = levelled;

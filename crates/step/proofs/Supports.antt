@@ -24,7 +24,7 @@ module _
     (edges : EdgesOf (length owners) starts targets sources)
     (safe : Safe (gameOf owners priorities starts targets) (markOf winners) (moveOf moves) (settledOf (length owners) work))
   where
-    allowed : (u w : ℕ) → Support (gameOf owners priorities starts targets) (markOf winners) (moveOf moves) (settledOf (length owners) work) u w → Allowed targets sources (section 0 (length owners) work) moves 0 u w
+    pub allowed : (u w : ℕ) → Support (gameOf owners priorities starts targets) (markOf winners) (moveOf moves) (settledOf (length owners) work) u w → Allowed targets sources (section 0 (length owners) work) moves 0 u w
     unfolding moveOf
     allowed u w s =
         record {

@@ -15,6 +15,7 @@ use Rattle.reach.proofs.Sections.{section-long}
 use Rattle.reach.proofs.Queues.{fresh-in, pushed-queued}
 use Rattle.pick.specs.Lines.{Lines, Covered}
 use Rattle.pick.specs.Order.{NoneBelow}
+use Rattle.pick.proofs.Picking.{standing-lines}
 use Rattle.levels.specs.Levels.{LevelSet}
 use Rattle.step.specs.Parts.{FlagSet, Keepable, Reopenable, Reopened}
 use Rattle.step.specs.Turning.{Turnable, Reached, TurnedIn}
@@ -64,14 +65,8 @@ module _
         reopenable =
             record {
               standing =
-                  record {
-                    small = p .standing .small;
-                    priorities-long = p .standing .priorities-long;
-                    bytes = p .standing .bytes;
-                    waiting-long = p .standing .waiting-long;
-                    work-long = c .beside .long ∙ s .beside .long ∙ p .standing .work-long;
-                    lines = rw (c .beside .spare ∙ s .beside .spare) (p .standing .lines);
-                  };
+                  standing-lines (p .standing) (p .standing .waiting-long) (c .beside .long ∙ s .beside .long ∙ p .standing .work-long)
+                  (rw (c .beside .spare ∙ s .beside .spare) (p .standing .lines));
               covered = rw flags (p .covered);
               room = p .room;
               queued = c .closed .queued;

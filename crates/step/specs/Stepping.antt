@@ -1,5 +1,5 @@
 -- The engine's state, what a step makes of it, and what many steps do.
-use Prim.Native.Nat.{ℕ, _<_, _≤_}
+use Prim.Native.Nat.{ℕ, _<_}
 use mathlib.Core.Path.{_≡_}
 use mathlib.Core.List.{List}
 use lib.ListN.{length}
@@ -11,7 +11,6 @@ use Rattle.justification.specs.Step.{Tested}
 use Rattle.justification.specs.Measure.{measure}
 use Rattle.reach.specs.Work.{section}
 use Rattle.reach.specs.Lists.{Preds, EdgesOf}
-use Rattle.pick.specs.Order.{LeastOpen, NoneBelow}
 use Rattle.pick.specs.Lines.{Covered}
 use Rattle.pick.specs.Moves.{Standing}
 use Rattle.levels.specs.Levels.{settledOf, levelOf}
@@ -43,14 +42,3 @@ pub record Moved (owners priorities starts targets heads nexts sources winners m
 -- the measure of a state is smaller than before
 pub record Falls (owners priorities starts targets winners work winners′ work′ : List ℕ) : Type 0 where
   pub less : measure (gameOf owners priorities starts targets) (markOf winners′) (settledOf (length owners) work′) < measure (gameOf owners priorities starts targets) (markOf winners) (settledOf (length owners) work)
-
--- the engine, and an open vertex of least priority
-pub record LeastSteppable (v : ℕ) (owners priorities starts targets heads nexts sources firsts lasts waiting levels winners moves work : List ℕ) : Type 0 where
-  pub engine : Engine owners priorities starts targets heads nexts sources firsts lasts waiting levels winners moves work
-  pub least : LeastOpen (length owners) priorities (section 0 (length owners) work) v
-
--- the engine after one step, with a smaller measure; nothing below `low` is open
-pub record LeastStepped (owners priorities starts targets heads nexts sources winners moves work firsts′ lasts′ waiting′ levels′ winners′ moves′ work′ : List ℕ) (low : ℕ) : Type 0 where
-  pub moved : Moved owners priorities starts targets heads nexts sources winners moves work firsts′ lasts′ waiting′ levels′ winners′ moves′ work′
-  pub falls : Falls owners priorities starts targets winners work winners′ work′
-  pub none-below : NoneBelow (length owners) priorities (section 0 (length owners) work′) low

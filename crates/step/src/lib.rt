@@ -1,12 +1,10 @@
 // One step of the method: an open vertex gets a line and is settled with it, or turned to the opponent.
 use crate::keep::keep;
 use crate::test::Line;
-use crate::test::test;
 use crate::turn::turn;
 use player::Player;
 ghost use lib.ListN.{length};
 ghost use Rattle.step.specs.Turning.{Turnable, SteppedIn};
-ghost use Rattle.step.specs.Stepping.{LeastSteppable, LeastStepped};
 
 mod keep;
 pub mod reopen;
@@ -44,47 +42,6 @@ pub fn step(
         v,
         line,
         low,
-        priorities,
-        targets,
-        heads,
-        nexts,
-        sources,
-        firsts,
-        lasts,
-        waiting,
-        levels,
-        winners,
-        moves,
-        work,
-    )
-}
-
-// An open vertex of least priority gets the line that the test gives: it is always eligible. Below the result nothing is open.
-pub fn step_least(
-    v: usize,
-    owners: &[u8],
-    priorities: &[u8],
-    starts: &[u16],
-    targets: &[u16],
-    heads: &[u16],
-    nexts: &[u16],
-    sources: &[u16],
-    firsts: &mut [u16],
-    lasts: &mut [u16],
-    waiting: &mut [u16],
-    levels: &mut [u16],
-    winners: &mut [u8],
-    moves: &mut [u16],
-    work: &mut [u16],
-) -> usize
-    requires { ⌜ LeastSteppable v (now owners) (now priorities) (now starts) (now targets) (now heads) (now nexts) (now sources) (now firsts) (now lasts) (now waiting) (now levels) (now winners) (now moves) (now work) ⌝ }
-    ensures { λ r. ⌜ LeastStepped (now (owners .entry)) (now (priorities .entry)) (now (starts .entry)) (now (targets .entry)) (now (heads .entry)) (now (nexts .entry)) (now (sources .entry)) (now (winners .entry)) (now (moves .entry)) (now (work .entry)) (now (firsts .exit)) (now (lasts .exit)) (now (waiting .exit)) (now (levels .exit)) (now (winners .exit)) (now (moves .exit)) (now (work .exit)) r ⌝ }
-{
-    let line = test(v, owners, priorities, starts, targets, winners);
-    step(
-        v,
-        line,
-        priorities[v] as usize,
         priorities,
         targets,
         heads,

@@ -5,7 +5,6 @@ use native.Mathlib.Omega.{arith}
 use mathlib.Core.Path.{sym, _∙_}
 use Rattle.reach.proofs.Chains.{cursor-less}
 use Rattle.attract.proofs.Visits.{Visiting, visiting-none, visiting-edge, visiting-source, visiting-drawable, visiting-more}
-use borrow.Author.Needs.{needs}
 use Rattle.attract.proofs.draw.visit.Statement.{statement}
 use Rattle.attract.proofs.draw.visit.Tie as tie
 

@@ -1,8 +1,6 @@
 -- `attract::offer::offer` meets its contract: the owner's move to u, or all of x's successors (Offers).
 -- Assumes nothing.
-use mathlib.Core.Path.{sym, _∙_}
-use native.Mathlib.Omega.{arith}
-use Rattle.attract.proofs.Offers.{from-seen, to-seen, seen, room, stretch, all-seen, offered-own, offered-other}
+use Rattle.attract.proofs.Offers.{seen, room, stretch, all-seen, offered-own, offered-other}
 use borrow.Author.Needs.{needs}
 use Rattle.attract.proofs.offer.offer.Statement.{statement}
 use Rattle.attract.proofs.offer.offer.Tie as tie

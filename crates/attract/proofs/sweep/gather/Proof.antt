@@ -2,7 +2,6 @@
 -- Assumes nothing.
 use Prim.Native.Nat.{_-_, _<_}
 use native.Mathlib.Omega.{arith}
-use mathlib.Core.Path.{sym, _∙_}
 use Rattle.reach.specs.Lists.{nil}
 use Rattle.attract.proofs.Gathers.{Gathering, gathering-none, gathering-vertex, gathering-lookable, gathering-link, gathering-more, gathering-all}
 use borrow.Author.Needs.{needs}
