@@ -18,12 +18,12 @@ module _
     (d : Drawn 0 owners priorities starts targets heads nexts sources winners₀ moves₀ work₀ firsts lasts waiting levels stack winners moves work)
     (x : Ran owners priorities starts targets heads nexts sources winners moves work firsts₁ lasts₁ waiting₁ levels₁ winners₁ moves₁ work₁ r)
   where
-    pub round-restartable : {stack₁ : List ℕ} → length stack₁ ≡ 2048 → Restartable (length priorities) priorities targets heads nexts sources firsts₁ lasts₁ waiting₁ levels₁ stack₁ winners₁ work₁
-    round-restartable long = restartable (x .moved .engine) long
+    pub round-restartable : Restartable (length priorities) priorities targets heads nexts sources moves₁ firsts₁ lasts₁ waiting₁ levels₁ winners₁ work₁
+    round-restartable = restartable (x .moved .engine)
 
     pub round-again :
         {firsts₂ lasts₂ waiting₂ levels₂ stack₂ winners₂ work₂ : List ℕ} →
-        RestartedIn (length priorities) priorities targets sources levels₁ winners₁ work₁ firsts₂ lasts₂ waiting₂ levels₂ winners₂ work₂ →
+        RestartedIn (length priorities) priorities targets sources moves₁ levels₁ winners₁ work₁ firsts₂ lasts₂ waiting₂ levels₂ winners₂ work₂ →
         length stack₂ ≡ 2048 →
         Drawn 0 owners priorities starts targets heads nexts sources winners₀ moves₀ work₀ firsts₂ lasts₂ waiting₂ levels₂ stack₂ winners₂ moves₁ work₂
     round-again y long =

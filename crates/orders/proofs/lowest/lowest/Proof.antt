@@ -2,6 +2,8 @@
 -- Assumes nothing.
 use native.Mathlib.Omega.{arith}
 use mathlib.Core.Path.{sym, _∙_}
+use Rattle.step.proofs.Steps.{turnable}
+use Rattle.step.proofs.Least.{testable, fitting, least-stepped}
 use Rattle.orders.proofs.Running.{pickable, picked-steppable, Lowering, lowering-none, lowering-step, lowering-all}
 use borrow.Author.Needs.{needs}
 use Rattle.orders.proofs.lowest.lowest.Statement.{statement}
@@ -49,17 +51,32 @@ same-length-7 c = lowering-all (c .before .before .before .before .before .befor
 returns : tie.Need-returns Inv-loop μ-loop
 returns c = (lowering-all (c .before .before .before .before .before .before .before .before .before .before .before .loop .inv) (c .before .before .before .before .before .before .pick .ensures) (c .enum-told .given .1), tt)
 
-step-least-requires : tie.Need-step-least-requires Inv-loop μ-loop
-step-least-requires c κs = picked-steppable (c .before .before .before .before .before .before .before .before .before .before .before .before .before .before .before .before .before .before .before .loop .inv .moved .engine) (c .before .before .before .before .before .before .before .before .before .before .before .before .before .before .before .before .before .before .before .loop .inv .none-below) (c .before .before .before .before .before .before .before .before .before .before .before .before .before .before .pick .ensures) (c .before .before .before .before .before .before .before .before .picked .given .1)
+test-requires : tie.Need-test-requires Inv-loop μ-loop
+test-requires c κs = testable _ _ _ _ _ _ _ _ _ _ _ _ _ _ _ (picked-steppable (c .before .before .before .before .before .before .before .before .before .before .before .before .before .loop .inv .moved .engine) (c .before .before .before .before .before .before .before .before .before .before .before .before .before .loop .inv .none-below) (c .before .before .before .before .before .before .before .before .pick .ensures) (c .before .before .picked .given .1))
+
+shared-slice-read-step : tie.Need-shared-slice-read-step Inv-loop μ-loop
+shared-slice-read-step c =
+    let s = (picked-steppable (c .before .before .before .before .before .before .before .before .before .before .before .before .before .before .before .loop .inv .moved .engine) (c .before .before .before .before .before .before .before .before .before .before .before .before .before .before .before .loop .inv .none-below) (c .before .before .before .before .before .before .before .before .before .before .pick .ensures) (c .before .before .before .before .picked .given .1)) in
+    omega (arith, s .least .vertex, s .engine .standing .priorities-long)
+
+cast-step : tie.Need-cast-step Inv-loop μ-loop
+cast-step c =
+    let s = (picked-steppable (c .before .before .before .before .before .before .before .before .before .before .before .before .before .before .before .loop .inv .moved .engine) (c .before .before .before .before .before .before .before .before .before .before .before .before .before .before .before .loop .inv .none-below) (c .before .before .before .before .before .before .before .before .before .before .pick .ensures) (c .before .before .before .before .picked .given .1)) in
+    omega (arith, s .engine .standing .bytes _ (s .least .vertex))
+
+step-requires : tie.Need-step-requires Inv-loop μ-loop
+step-requires c κs =
+    let s = (picked-steppable (c .before .before .before .before .before .before .before .before .before .before .before .before .before .before .before .before .before .before .before .before .before .before .loop .inv .moved .engine) (c .before .before .before .before .before .before .before .before .before .before .before .before .before .before .before .before .before .before .before .before .before .before .loop .inv .none-below) (c .before .before .before .before .before .before .before .before .before .before .before .before .before .before .before .before .before .pick .ensures) (c .before .before .before .before .before .before .before .before .before .before .before .picked .given .1)) in
+    turnable _ _ _ _ _ _ _ _ _ _ _ _ _ _ _ _ _ _ (s .engine) (fitting _ _ _ _ _ _ _ _ _ _ _ _ _ _ _ s (c .before .before .before .before .before .before .before .before .test .ensures .0) (c .before .before .before .before .before .before .before .before .test .ensures .1))
 
 sub-left : tie.Need-sub-left Inv-loop μ-loop
-sub-left c = omega (arith, c .before .before .before .before .before .before .before .before .before .before .before .before .before .before .before .before .before .before .before .before .before .before .before .before .before .before .before .before .before .before .before .before .before .loop-test .taken)
+sub-left c = omega (arith, c .before .before .before .before .before .before .before .before .before .before .before .before .before .before .before .before .before .before .before .before .before .before .before .before .before .before .before .before .before .before .before .before .before .before .before .before .loop-test .taken)
 
 loop-less : tie.Need-loop-less Inv-loop μ-loop
-loop-less c = omega (arith, c .before .before .before .before .before .before .before .before .before .before .before .before .before .before .before .before .before .before .before .before .before .before .before .before .before .before .before .before .before .before .before .before .before .loop-test .taken)
+loop-less c = omega (arith, c .before .before .before .before .before .before .before .before .before .before .before .before .before .before .before .before .before .before .before .before .before .before .before .before .before .before .before .before .before .before .before .before .before .before .before .before .loop-test .taken)
 
 loop-again : tie.Need-loop-again Inv-loop μ-loop
-loop-again c = lowering-step (c .before .before .before .before .before .before .before .before .before .before .before .before .before .before .before .before .before .before .before .before .before .before .before .before .before .before .before .before .before .before .before .before .before .before .loop .inv) (c .before .before .before .before .before .before .before .before .before .before .before .before .before .before .before .before .before .before .before .before .before .before .before .before .before .before .before .before .before .pick .ensures) (omega (arith, c .before .before .before .before .before .before .before .before .before .before .before .before .before .before .before .before .before .before .before .before .before .before .before .before .before .before .before .before .before .before .before .before .before .loop-test .taken)) (c .before .before .before .before .before .before .before .before .before .before .before .before .before .before .step-least .ensures)
+loop-again c = lowering-step (c .before .before .before .before .before .before .before .before .before .before .before .before .before .before .before .before .before .before .before .before .before .before .before .before .before .before .before .before .before .before .before .before .before .before .before .before .before .loop .inv) (c .before .before .before .before .before .before .before .before .before .before .before .before .before .before .before .before .before .before .before .before .before .before .before .before .before .before .before .before .before .before .before .before .pick .ensures) (omega (arith, c .before .before .before .before .before .before .before .before .before .before .before .before .before .before .before .before .before .before .before .before .before .before .before .before .before .before .before .before .before .before .before .before .before .before .before .before .loop-test .taken)) (least-stepped _ _ _ _ _ _ _ _ _ _ _ _ _ _ _ (picked-steppable (c .before .before .before .before .before .before .before .before .before .before .before .before .before .before .before .before .before .before .before .before .before .before .before .before .before .before .before .before .before .before .before .before .before .before .before .before .before .loop .inv .moved .engine) (c .before .before .before .before .before .before .before .before .before .before .before .before .before .before .before .before .before .before .before .before .before .before .before .before .before .before .before .before .before .before .before .before .before .before .before .before .before .loop .inv .none-below) (c .before .before .before .before .before .before .before .before .before .before .before .before .before .before .before .before .before .before .before .before .before .before .before .before .before .before .before .before .before .before .before .before .pick .ensures) (c .before .before .before .before .before .before .before .before .before .before .before .before .before .before .before .before .before .before .before .before .before .before .before .before .before .before .picked .given .1)) (c .before .before .before .before .before .before .before .before .before .before .before .before .before .before .before .before .before .before .before .before .before .before .before .test .ensures .0) (c .before .before .before .before .before .before .before .before .before .before .before .before .before .before .before .before .before .before .before .before .before .before .before .test .ensures .1) (c .before .before .before .before .before .before .before .before .before .before .before .before .before .before .step .ensures))
 
 same-length-8 : tie.Need-same-length-8 Inv-loop μ-loop
 same-length-8 c = c .before .loop .inv .moved .engine .standing .lines .firsts-long ∙ sym (c .before .before .before .before .before .before .before .before .before .before .before .before .before .before .before .before .pre .standing .lines .firsts-long)
@@ -103,7 +120,10 @@ lowest-spec =
     same-length-6
     same-length-7
     returns
-    step-least-requires
+    test-requires
+    shared-slice-read-step
+    cast-step
+    step-requires
     sub-left
     loop-less
     loop-again
