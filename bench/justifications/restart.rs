@@ -1,5 +1,5 @@
-//! A fresh start: what cannot reach an open vertex is decided for good and stays, and everything
-//! else is opened again.
+//! A fresh start: what does not lean on an open vertex is decided for good and stays, and
+//! everything else is opened again.
 
 use super::state::State;
 
@@ -16,7 +16,7 @@ impl State<'_> {
                 self.closure.seed(v);
             }
         }
-        self.close(|_, _| true);
+        self.close();
         self.reopen(0);
         for v in 0..n {
             if !self.closure.marked[v] {

@@ -52,7 +52,7 @@ impl State<'_> {
     fn turn(&mut self, v: usize, line: Line, low: usize) -> usize {
         self.counts.turns += 1;
         self.closure.seed(v);
-        self.close(|step, w| step == NO_MOVE || step as usize == w);
+        self.close();
         let least = self.reopen(low);
         self.closure.clear();
         self.winners[v] = line.winner;
@@ -60,8 +60,8 @@ impl State<'_> {
         least
     }
 
-    /// Queues every settled vertex that leads to the queue by steps that its move allows.
-    pub fn close(&mut self, allows: impl Fn(u16, usize) -> bool) {
+    /// Queues every settled vertex that leans on the queue.
+    pub fn close(&mut self) {
         let mut walked = 0;
         let mut head = 0;
         while let Some(&w) = self.closure.queue.get(head) {
@@ -72,7 +72,7 @@ impl State<'_> {
                 edge = next;
                 walked += 1;
                 let free = !self.closure.marked[u] && !self.open[u];
-                if free && allows(self.moves[u], w as usize) {
+                if free && (self.moves[u] == NO_MOVE || self.moves[u] == w) {
                     self.closure.seed(u);
                 }
             }
