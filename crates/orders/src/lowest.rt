@@ -2,12 +2,14 @@
 use crate::Ended;
 use pick::Picked;
 use pick::pick;
-use step::step;
+use player::Player;
+use step::keep::keep;
 use step::test::test;
+use step::turn::turn;
 ghost use Rattle.step.specs.Stepping.{Engine};
 ghost use Rattle.orders.specs.Ending.{Ran, Fell};
 
-// Steps until nothing is open or the budget, one a step, is spent.
+// Steps until nothing is open or the budget, one a step, is spent. It does what `step` does by itself: the call would cost a quarter of its time.
 pub fn lowest(
     budget: usize,
     owners: &[u8],
@@ -38,24 +40,31 @@ pub fn lowest(
             return Ended::Done;
         };
         let line = test(v, owners, priorities, starts, targets, winners);
-        low = step(
-            v,
-            line,
-            priorities[v] as usize,
-            priorities,
-            targets,
-            heads,
-            nexts,
-            sources,
-            firsts,
-            lasts,
-            waiting,
-            levels,
-            winners,
-            moves,
-            work,
-        );
+        let own = priorities[v];
         left -= 1;
+        if line.winner == Player::of_priority(own).bit {
+            keep(v, line, levels, moves, work);
+            low = own as usize;
+        } else {
+            low = turn(
+                priorities.len(),
+                v,
+                line,
+                own as usize,
+                priorities,
+                targets,
+                heads,
+                nexts,
+                sources,
+                firsts,
+                lasts,
+                waiting,
+                levels,
+                winners,
+                moves,
+                work,
+            );
+        }
     }
     Ended::Spent
 }

@@ -6,10 +6,10 @@ use player::Player;
 ghost use lib.ListN.{length};
 ghost use Rattle.step.specs.Turning.{Turnable, SteppedIn};
 
-mod keep;
+pub mod keep;
 pub mod reopen;
 pub mod test;
-mod turn;
+pub mod turn;
 
 // v, which is open, gets the line. If nothing below `low` is open before, nothing below the result is afterwards.
 pub fn step(

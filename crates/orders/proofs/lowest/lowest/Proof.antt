@@ -2,6 +2,7 @@
 -- Assumes nothing.
 use native.Mathlib.Omega.{arith}
 use mathlib.Core.Path.{sym, _∙_}
+use Rattle.step.proofs.Settling.{settlable, by-keeping, by-turning}
 use Rattle.step.proofs.Steps.{turnable}
 use Rattle.step.proofs.Least.{testable, fitting, least-stepped}
 use Rattle.orders.proofs.Running.{pickable, picked-steppable, Lowering, lowering-none, lowering-step, lowering-all}
@@ -54,29 +55,52 @@ returns c = (lowering-all (c .before .before .before .before .before .before .be
 test-requires : tie.Need-test-requires Inv-loop μ-loop
 test-requires c κs = testable _ _ _ _ _ _ _ _ _ _ _ _ _ _ _ (picked-steppable (c .before .before .before .before .before .before .before .before .before .before .before .before .before .loop .inv .moved .engine) (c .before .before .before .before .before .before .before .before .before .before .before .before .before .loop .inv .none-below) (c .before .before .before .before .before .before .before .before .pick .ensures) (c .before .before .picked .given .1))
 
-shared-slice-read-step : tie.Need-shared-slice-read-step Inv-loop μ-loop
-shared-slice-read-step c =
+shared-slice-read-own : tie.Need-shared-slice-read-own Inv-loop μ-loop
+shared-slice-read-own c =
     let s = (picked-steppable (c .before .before .before .before .before .before .before .before .before .before .before .before .before .before .before .loop .inv .moved .engine) (c .before .before .before .before .before .before .before .before .before .before .before .before .before .before .before .loop .inv .none-below) (c .before .before .before .before .before .before .before .before .before .before .pick .ensures) (c .before .before .before .before .picked .given .1)) in
     omega (arith, s .least .vertex, s .engine .standing .priorities-long)
 
-cast-step : tie.Need-cast-step Inv-loop μ-loop
-cast-step c =
-    let s = (picked-steppable (c .before .before .before .before .before .before .before .before .before .before .before .before .before .before .before .loop .inv .moved .engine) (c .before .before .before .before .before .before .before .before .before .before .before .before .before .before .before .loop .inv .none-below) (c .before .before .before .before .before .before .before .before .before .before .pick .ensures) (c .before .before .before .before .picked .given .1)) in
+sub-left : tie.Need-sub-left Inv-loop μ-loop
+sub-left c = omega (arith, c .before .before .before .before .before .before .before .before .before .before .before .before .before .before .loop-test .taken)
+
+of-priority-requires : tie.Need-of-priority-requires Inv-loop μ-loop
+of-priority-requires c κs = search needs
+
+keep-requires : tie.Need-keep-requires Inv-loop μ-loop
+keep-requires c κs =
+    let s = (picked-steppable (c .before .before .before .before .before .before .before .before .before .before .before .before .before .before .before .before .before .before .before .before .before .before .loop .inv .moved .engine) (c .before .before .before .before .before .before .before .before .before .before .before .before .before .before .before .before .before .before .before .before .before .before .loop .inv .none-below) (c .before .before .before .before .before .before .before .before .before .before .before .before .before .before .before .before .before .pick .ensures) (c .before .before .before .before .before .before .before .before .before .before .before .picked .given .1)) in
+    settlable (turnable _ _ _ _ _ _ _ _ _ _ _ _ _ _ _ _ _ _ (s .engine) (fitting _ _ _ _ _ _ _ _ _ _ _ _ _ _ _ s (c .before .before .before .before .before .before .before .before .test .ensures .0) (c .before .before .before .before .before .before .before .before .test .ensures .1)))
+
+cast-low : tie.Need-cast-low Inv-loop μ-loop
+cast-low c =
+    let s = (picked-steppable (c .before .before .before .before .before .before .before .before .before .before .before .before .before .before .before .before .before .before .before .before .before .before .before .before .before .before .before .before .before .loop .inv .moved .engine) (c .before .before .before .before .before .before .before .before .before .before .before .before .before .before .before .before .before .before .before .before .before .before .before .before .before .before .before .before .before .loop .inv .none-below) (c .before .before .before .before .before .before .before .before .before .before .before .before .before .before .before .before .before .before .before .before .before .before .before .before .pick .ensures) (c .before .before .before .before .before .before .before .before .before .before .before .before .before .before .before .before .before .before .picked .given .1)) in
     omega (arith, s .engine .standing .bytes _ (s .least .vertex))
 
-step-requires : tie.Need-step-requires Inv-loop μ-loop
-step-requires c κs =
-    let s = (picked-steppable (c .before .before .before .before .before .before .before .before .before .before .before .before .before .before .before .before .before .before .before .before .before .before .loop .inv .moved .engine) (c .before .before .before .before .before .before .before .before .before .before .before .before .before .before .before .before .before .before .before .before .before .before .loop .inv .none-below) (c .before .before .before .before .before .before .before .before .before .before .before .before .before .before .before .before .before .pick .ensures) (c .before .before .before .before .before .before .before .before .before .before .before .picked .given .1)) in
-    turnable _ _ _ _ _ _ _ _ _ _ _ _ _ _ _ _ _ _ (s .engine) (fitting _ _ _ _ _ _ _ _ _ _ _ _ _ _ _ s (c .before .before .before .before .before .before .before .before .test .ensures .0) (c .before .before .before .before .before .before .before .before .test .ensures .1))
-
-sub-left : tie.Need-sub-left Inv-loop μ-loop
-sub-left c = omega (arith, c .before .before .before .before .before .before .before .before .before .before .before .before .before .before .before .before .before .before .before .before .before .before .before .before .before .before .before .before .before .before .before .before .before .before .before .before .loop-test .taken)
-
 loop-less : tie.Need-loop-less Inv-loop μ-loop
-loop-less c = omega (arith, c .before .before .before .before .before .before .before .before .before .before .before .before .before .before .before .before .before .before .before .before .before .before .before .before .before .before .before .before .before .before .before .before .before .before .before .before .loop-test .taken)
+loop-less c = omega (arith, c .before .before .before .before .before .before .before .before .before .before .before .before .before .before .before .before .before .before .before .before .before .before .before .before .before .before .before .before .loop-test .taken)
 
 loop-again : tie.Need-loop-again Inv-loop μ-loop
-loop-again c = lowering-step (c .before .before .before .before .before .before .before .before .before .before .before .before .before .before .before .before .before .before .before .before .before .before .before .before .before .before .before .before .before .before .before .before .before .before .before .before .before .loop .inv) (c .before .before .before .before .before .before .before .before .before .before .before .before .before .before .before .before .before .before .before .before .before .before .before .before .before .before .before .before .before .before .before .before .pick .ensures) (omega (arith, c .before .before .before .before .before .before .before .before .before .before .before .before .before .before .before .before .before .before .before .before .before .before .before .before .before .before .before .before .before .before .before .before .before .before .before .before .loop-test .taken)) (least-stepped _ _ _ _ _ _ _ _ _ _ _ _ _ _ _ (picked-steppable (c .before .before .before .before .before .before .before .before .before .before .before .before .before .before .before .before .before .before .before .before .before .before .before .before .before .before .before .before .before .before .before .before .before .before .before .before .before .loop .inv .moved .engine) (c .before .before .before .before .before .before .before .before .before .before .before .before .before .before .before .before .before .before .before .before .before .before .before .before .before .before .before .before .before .before .before .before .before .before .before .before .before .loop .inv .none-below) (c .before .before .before .before .before .before .before .before .before .before .before .before .before .before .before .before .before .before .before .before .before .before .before .before .before .before .before .before .before .before .before .before .pick .ensures) (c .before .before .before .before .before .before .before .before .before .before .before .before .before .before .before .before .before .before .before .before .before .before .before .before .before .before .picked .given .1)) (c .before .before .before .before .before .before .before .before .before .before .before .before .before .before .before .before .before .before .before .before .before .before .before .test .ensures .0) (c .before .before .before .before .before .before .before .before .before .before .before .before .before .before .before .before .before .before .before .before .before .before .before .test .ensures .1) (c .before .before .before .before .before .before .before .before .before .before .before .before .before .before .step .ensures))
+loop-again c =
+    let s = (picked-steppable (c .before .before .before .before .before .before .before .before .before .before .before .before .before .before .before .before .before .before .before .before .before .before .before .before .before .before .before .before .before .loop .inv .moved .engine) (c .before .before .before .before .before .before .before .before .before .before .before .before .before .before .before .before .before .before .before .before .before .before .before .before .before .before .before .before .before .loop .inv .none-below) (c .before .before .before .before .before .before .before .before .before .before .before .before .before .before .before .before .before .before .before .before .before .before .before .before .pick .ensures) (c .before .before .before .before .before .before .before .before .before .before .before .before .before .before .before .before .before .before .picked .given .1)) in
+    lowering-step (c .before .before .before .before .before .before .before .before .before .before .before .before .before .before .before .before .before .before .before .before .before .before .before .before .before .before .before .before .before .loop .inv) (c .before .before .before .before .before .before .before .before .before .before .before .before .before .before .before .before .before .before .before .before .before .before .before .before .pick .ensures) (omega (arith, c .before .before .before .before .before .before .before .before .before .before .before .before .before .before .before .before .before .before .before .before .before .before .before .before .before .before .before .before .loop-test .taken)) (least-stepped _ _ _ _ _ _ _ _ _ _ _ _ _ _ _ s (c .before .before .before .before .before .before .before .before .before .before .before .before .before .before .before .test .ensures .0) (c .before .before .before .before .before .before .before .before .before .before .before .before .before .before .before .test .ensures .1) (by-keeping (turnable _ _ _ _ _ _ _ _ _ _ _ _ _ _ _ _ _ _ (s .engine) (fitting _ _ _ _ _ _ _ _ _ _ _ _ _ _ _ s (c .before .before .before .before .before .before .before .before .before .before .before .before .before .before .before .test .ensures .0) (c .before .before .before .before .before .before .before .before .before .before .before .before .before .before .before .test .ensures .1))) (c .before .before .before .before .before .before .before .before .before .before .if1 .taken ∙ c .before .before .before .before .before .before .before .before .before .before .before .before .before .of-priority .ensures) (c .before .before .before .before .before .before .keep .ensures .0) (c .before .before .before .before .before .before .keep .ensures .1 .0) (c .before .before .before .before .before .before .keep .ensures .1 .1)))
+
+cast-turn : tie.Need-cast-turn Inv-loop μ-loop
+cast-turn c =
+    let s = (picked-steppable (c .before .before .before .before .before .before .before .before .before .before .before .before .before .before .before .before .before .before .before .loop .inv .moved .engine) (c .before .before .before .before .before .before .before .before .before .before .before .before .before .before .before .before .before .before .before .loop .inv .none-below) (c .before .before .before .before .before .before .before .before .before .before .before .before .before .before .pick .ensures) (c .before .before .before .before .before .before .before .before .picked .given .1)) in
+    omega (arith, s .engine .standing .bytes _ (s .least .vertex))
+
+turn-requires : tie.Need-turn-requires Inv-loop μ-loop
+turn-requires c κs =
+    let s = (picked-steppable (c .before .before .before .before .before .before .before .before .before .before .before .before .before .before .before .before .before .before .before .before .before .before .before .before .before .before .loop .inv .moved .engine) (c .before .before .before .before .before .before .before .before .before .before .before .before .before .before .before .before .before .before .before .before .before .before .before .before .before .before .loop .inv .none-below) (c .before .before .before .before .before .before .before .before .before .before .before .before .before .before .before .before .before .before .before .before .before .pick .ensures) (c .before .before .before .before .before .before .before .before .before .before .before .before .before .before .before .picked .given .1)) in
+    turnable _ _ _ _ _ _ _ _ _ _ _ _ _ _ _ _ _ _ (s .engine) (fitting _ _ _ _ _ _ _ _ _ _ _ _ _ _ _ s (c .before .before .before .before .before .before .before .before .before .before .before .before .test .ensures .0) (c .before .before .before .before .before .before .before .before .before .before .before .before .test .ensures .1))
+
+loop-less-2 : tie.Need-loop-less-2 Inv-loop μ-loop
+loop-less-2 c = omega (arith, c .before .before .before .before .before .before .before .before .before .before .before .before .before .before .before .before .before .before .before .before .before .before .before .before .before .before .before .before .before .before .before .before .before .before .before .before .before .before .before .before .loop-test .taken)
+
+loop-again-2 : tie.Need-loop-again-2 Inv-loop μ-loop
+loop-again-2 c =
+    let s = (picked-steppable (c .before .before .before .before .before .before .before .before .before .before .before .before .before .before .before .before .before .before .before .before .before .before .before .before .before .before .before .before .before .before .before .before .before .before .before .before .before .before .before .before .before .loop .inv .moved .engine) (c .before .before .before .before .before .before .before .before .before .before .before .before .before .before .before .before .before .before .before .before .before .before .before .before .before .before .before .before .before .before .before .before .before .before .before .before .before .before .before .before .before .loop .inv .none-below) (c .before .before .before .before .before .before .before .before .before .before .before .before .before .before .before .before .before .before .before .before .before .before .before .before .before .before .before .before .before .before .before .before .before .before .before .before .pick .ensures) (c .before .before .before .before .before .before .before .before .before .before .before .before .before .before .before .before .before .before .before .before .before .before .before .before .before .before .before .before .before .before .picked .given .1)) in
+    lowering-step (c .before .before .before .before .before .before .before .before .before .before .before .before .before .before .before .before .before .before .before .before .before .before .before .before .before .before .before .before .before .before .before .before .before .before .before .before .before .before .before .before .before .loop .inv) (c .before .before .before .before .before .before .before .before .before .before .before .before .before .before .before .before .before .before .before .before .before .before .before .before .before .before .before .before .before .before .before .before .before .before .before .before .pick .ensures) (omega (arith, c .before .before .before .before .before .before .before .before .before .before .before .before .before .before .before .before .before .before .before .before .before .before .before .before .before .before .before .before .before .before .before .before .before .before .before .before .before .before .before .before .loop-test .taken)) (least-stepped _ _ _ _ _ _ _ _ _ _ _ _ _ _ _ s (c .before .before .before .before .before .before .before .before .before .before .before .before .before .before .before .before .before .before .before .before .before .before .before .before .before .before .before .test .ensures .0) (c .before .before .before .before .before .before .before .before .before .before .before .before .before .before .before .before .before .before .before .before .before .before .before .before .before .before .before .test .ensures .1) (by-turning (λ e. c .before .before .before .before .before .before .before .before .before .before .before .before .before .before .before .before .before .before .before .before .before .before .if1 .left (e ∙ sym (c .before .before .before .before .before .before .before .before .before .before .before .before .before .before .before .before .before .before .before .before .before .before .before .before .before .of-priority .ensures))) (c .before .before .before .before .before .before .before .before .before .before .before .before .before .before .turn .ensures)))
 
 same-length-8 : tie.Need-same-length-8 Inv-loop μ-loop
 same-length-8 c = c .before .loop .inv .moved .engine .standing .lines .firsts-long ∙ sym (c .before .before .before .before .before .before .before .before .before .before .before .before .before .before .before .before .pre .standing .lines .firsts-long)
@@ -121,12 +145,17 @@ lowest-spec =
     same-length-7
     returns
     test-requires
-    shared-slice-read-step
-    cast-step
-    step-requires
+    shared-slice-read-own
     sub-left
+    of-priority-requires
+    keep-requires
+    cast-low
     loop-less
     loop-again
+    cast-turn
+    turn-requires
+    loop-less-2
+    loop-again-2
     same-length-8
     same-length-9
     same-length-10
