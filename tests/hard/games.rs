@@ -12,8 +12,9 @@ pub struct Named {
 /// Found by climbing from random games to slow ones; the number at the end is that of the vertices.
 /// `hard.0` kept lowest first alone busy, `hard.1` attraction from the highest priority down, and
 /// `worst` the library's own method: of bench/search with seeds 1 to 3, 15 seconds a size, the game
-/// of each size that visits the most edges. Other seeds find worse ones.
-const FILES: [(&str, &str); 13] = [
+/// of each size that visits the most edges. Other seeds find worse ones. `restart` are slow for both
+/// orders, so that the library starts afresh on them; no game of the second program does that.
+const FILES: [(&str, &str); 16] = [
     ("hard.0.20", include_str!("hard.0.20")),
     ("hard.0.24", include_str!("hard.0.24")),
     ("hard.0.28", include_str!("hard.0.28")),
@@ -27,6 +28,9 @@ const FILES: [(&str, &str); 13] = [
     ("worst.24", include_str!("worst.24")),
     ("worst.32", include_str!("worst.32")),
     ("worst.48", include_str!("worst.48")),
+    ("restart.24", include_str!("restart.24")),
+    ("restart.40", include_str!("restart.40")),
+    ("restart.64", include_str!("restart.64")),
 ];
 
 pub fn files() -> Result<Vec<Named>, String> {
