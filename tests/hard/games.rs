@@ -11,7 +11,7 @@ pub struct Named {
 
 /// Found by climbing from random games to slow ones; the number at the end is that of the vertices.
 /// `hard.0` kept lowest first alone busy, `hard.1` attraction from the highest priority down, and
-/// `worst` the library's own method: of bench/search with seeds 1 to 3, 15 seconds a size, the game
+/// `worst` the library's own method: of several runs of bench/search, 15 seconds a size, the game
 /// of each size that visits the most edges. Other seeds find worse ones. `restart` are slow for both
 /// orders, so that the library starts afresh on them; no game of the second program does that.
 const FILES: [(&str, &str); 16] = [

@@ -33,7 +33,7 @@ fn lines_used(firsts: &[u16]) -> usize
     used
 }
 
-// Attraction begins where there are many priorities: there it visits a tenth of the edges; with few, lowest first visits fewer.
+// Attraction begins where there are many priorities: on random games it then visits an eighth of the edges. With few, lowest first visits fewer.
 fn begins_with(used: usize) -> usize {
     if 6 < used { 1 } else { 0 }
 }
