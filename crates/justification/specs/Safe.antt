@@ -38,7 +38,7 @@ module _ (g : Game) (mark move settled : ℕ → ℕ) where
   pub record Above (v k : ℕ) : Type 0 where
     pub high : (u : ℕ) → Walk Support v u → settled u ≢ 1 → k ≤ g .priority u
 
-  -- if v gets the winner p and the move m, its own steps lead to w only where supports stay above k
+  -- if v gets the winner p and the move m, support steps lead from wherever it then leans on to no open vertex of a priority below k
   abbrev pub Onward : (v p m k : ℕ) → Type 0
   Onward v p m k = (w : ℕ) → Edge g v w → (g .owner v ≡ p → w ≡ m) → Above w k
 

@@ -1,4 +1,4 @@
--- The two steps of the method, as relations between the state before and the state after, vertex by vertex.
+-- The two steps of the method, and the opening of a set again, as relations between the state before and the state after, vertex by vertex.
 use Prim.Native.Nat.{ℕ, _<_}
 use mathlib.Core.Path.{_≡_}
 use mathlib.Core.Logic.{_≢_}
