@@ -35,7 +35,7 @@ module _
     offerable =
         record {
           well-formed = e .state .well-formed;
-          kept =
+          known =
               record {
                 small = omega (arith, level, e .standing .small);
                 levels-long = omega (arith, level, e .standing .small, e .levels-long);

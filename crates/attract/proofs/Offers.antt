@@ -25,10 +25,10 @@ module _ {x u : ℕ} {owners priorities starts targets levels winners work : Lis
   to-seen = omega (arith, p .edge .to, p .well-formed .level)
 
   pub seen : Seen u priorities levels work
-  seen = record { vertex = to-seen; levels-long = p .kept .levels-long; work-long = p .kept .work-long }
+  seen = record { vertex = to-seen; levels-long = p .known .levels-long; work-long = p .known .work-long }
 
   pub room : u < markRoom winners
-  room = omega (arith, to-seen, p .kept .room)
+  room = omega (arith, to-seen, p .known .room)
 
   pub stretch : Stretch starts targets x
   stretch = stretch-of _ _ _ (p .well-formed .placed) x (p .edge .from)
@@ -37,7 +37,7 @@ module _ {x u : ℕ} {owners priorities starts targets levels winners work : Lis
   pub all-seen : (r : List ℕ) → r ≡ nextOf starts targets x → AllSeen r priorities levels winners work
   all-seen r e =
       record {
-        kept = p .kept;
+        known = p .known;
         vertex =
             λ i h.
             let k : getD r i 0 < length owners = p .well-formed .sound .inside x _ (p .edge .from) (subst (Listed (getD r i 0)) e (record { at = i; within = h; is = refl })) in
@@ -46,7 +46,7 @@ module _ {x u : ℕ} {owners priorities starts targets levels winners work : Lis
 
   module _ (flag : getD work x 0 ≢ 0) where
     unsettled : settledOf (length priorities) work x ≢ 1
-    unsettled = cell-open work (p .kept .work-long) from-seen flag
+    unsettled = cell-open work (p .known .work-long) from-seen flag
 
     -- x's owner moves to u
     pub offered-own : {w bound floor : ℕ} → w ≡ markOf winners u → getD owners x 0 ≡ w → FloorOf u priorities levels work floor → bound ≤ floor → getD priorities x 0 ≤ bound → Offered x w u floor owners priorities starts targets levels winners work

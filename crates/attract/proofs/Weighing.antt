@@ -44,7 +44,7 @@ module _ {winner bound : ℕ} {stretch priorities levels winners work : List ℕ
 -- a vertex of the stretch is seen, and has a mark
 module _ {stretch priorities levels winners work : List ℕ} {i t : ℕ} (p : AllSeen stretch priorities levels winners work) (l : i < length stretch) (e : t ≡ getD stretch i 0) where
   pub weighing-seen : Seen t priorities levels work
-  weighing-seen = record { vertex = omega (arith, p .vertex i l); levels-long = p .kept .levels-long; work-long = p .kept .work-long }
+  weighing-seen = record { vertex = omega (arith, p .vertex i l); levels-long = p .known .levels-long; work-long = p .known .work-long }
 
   pub weighing-room : t < markRoom winners
-  weighing-room = omega (arith, p .vertex i l, p .kept .room)
+  weighing-room = omega (arith, p .vertex i l, p .known .room)

@@ -16,7 +16,7 @@ use Rattle.attract.specs.declared.offer.Chance.{Chance}
 use Rattle.attract.specs.declared.offer.Chance.the-variants.{Gets, Nothing}
 
 -- every vertex has a priority, a level, a mark and a flag
-pub record Kept (priorities levels winners work : List ℕ) : Type 0 where
+pub record Known (priorities levels winners work : List ℕ) : Type 0 where
   pub small : length priorities ≤ 2048
   pub levels-long : length priorities ≤ length levels
   pub room : markRoom winners ≡ length priorities
@@ -30,7 +30,7 @@ pub record Grounds (priorities levels work : List ℕ) (k w : ℕ) : Type 0 wher
 
 -- the vertices of a stretch are seen
 pub record AllSeen (stretch priorities levels winners work : List ℕ) : Type 0 where
-  pub kept : Kept priorities levels winners work
+  pub known : Known priorities levels winners work
   pub vertex : (i : ℕ) → i < length stretch → getD stretch i 0 < length priorities
 
 -- all vertices of a stretch are marked for the winner, and no floor is below the level, which is not below the bound
@@ -47,7 +47,7 @@ AllFor winner bound stretch priorities levels winners work None = Unit {0}
 -- an edge of a well-formed game whose vertices are seen
 pub record Offerable (x u : ℕ) (owners priorities starts targets levels winners work : List ℕ) : Type 0 where
   pub well-formed : WellFormed owners priorities starts targets
-  pub kept : Kept priorities levels winners work
+  pub known : Known priorities levels winners work
   pub player : (v : ℕ) → v < length owners → IsPlayer (markOf winners v)
   pub edge : Edge (gameOf owners priorities starts targets) x u
 

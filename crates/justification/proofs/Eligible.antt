@@ -5,7 +5,7 @@ use mathlib.Core.Logic.{_≢_}
 use native.Mathlib.Nat.{le-refl, le-trans}
 use Rattle.game.specs.Game.{Game}
 use Rattle.winning.specs.Walk.{Walk, stay, step}
-use Rattle.justification.specs.Safe.{Support, Safe, Above, Onward, Eligible, Levelled}
+use Rattle.justification.specs.Safe.{Support, Safe, Above, Onward, Eligible}
 use Rattle.justification.specs.Step.{Settled}
 use Rattle.justification.proofs.Lines.{within}
 
@@ -33,10 +33,6 @@ module _ (g : Game) (mark move settled : ℕ → ℕ) where
   -- a safe state's vertices stay above their own priorities
   pub safe-above : {v : ℕ} → Safe g mark move settled → v < g .n → Above g mark move settled v (g .priority v)
   safe-above {v} safe l = record { high = λ u w f. safe .below v u l w f }
-
-  -- so these are levels
-  pub safe-levelled : Safe g mark move settled → Levelled g mark move settled (g .priority)
-  safe-levelled safe = record { above = λ v l s. safe-above safe l }
 
   -- where no vertex of a priority below k is open, every vertex stays above k
   pub none-below-above : {w k : ℕ} → ((u : ℕ) → u < g .n → settled u ≢ 1 → k ≤ g .priority u) → w < g .n → Above g mark move settled w k

@@ -1,10 +1,10 @@
--- Opening again a set that holds whatever leans on what it holds keeps the invariants, and the levels.
+-- Opening again a set that holds whatever leans on what it holds keeps the invariants, and what is known of the rest.
 use Prim.Native.Nat.{ℕ, _<_}
 use Rattle.game.specs.Game.{Game}
-use Rattle.justification.specs.Safe.{Safe, Above, Levelled}
+use Rattle.justification.specs.Safe.{Safe, Above}
 use Rattle.justification.specs.Step.{Reset, Downward}
 use Rattle.justification.proofs.Lines.{open-line}
-use Rattle.justification.proofs.Outside.{outside-above, outside-level, outside-safe}
+use Rattle.justification.proofs.Outside.{outside-above, outside-safe}
 
 module _
     (g : Game) (mark move settled mark′ move′ settled′ : ℕ → ℕ) (R : ℕ → Type 0)
@@ -21,12 +21,3 @@ module _
     -- what R does not hold stays above what it stayed above
     pub reset-above : {x k : ℕ} → x < g .n → ¬ R x → Above g mark move settled x k → Above g mark′ move′ settled′ x k
     reset-above = outside-above g mark move settled mark′ move′ settled′ R downward (reset .elsewhere)
-
-    -- what is settled is outside R
-    pub reset-levelled : {level : ℕ → ℕ} → Levelled g mark move settled level → Levelled g mark′ move′ settled′ level
-    reset-levelled levelled =
-        record {
-          above =
-              λ u l s.
-              outside-level g mark move settled mark′ move′ settled′ R downward (reset .elsewhere) levelled l (λ r. reset .reopened u l r .0 s) s;
-        }

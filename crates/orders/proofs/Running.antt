@@ -64,9 +64,8 @@ module _ {owners priorities starts targets heads nexts sources winners₀ moves�
       }
 
   module _
-      {low budget left : ℕ} {firsts lasts waiting levels winners moves work firsts₁ waiting₁ : List ℕ} {r : Picked}
+      {low budget left : ℕ} {firsts lasts waiting levels winners moves work : List ℕ}
       (s : Lowering low budget left owners priorities starts targets heads nexts sources winners₀ moves₀ work₀ firsts lasts waiting levels winners moves work)
-      (p : Picks (length owners) low firsts waiting work firsts₁ waiting₁ r)
     where
       pub lowering-step :
           {low′ left′ : ℕ} {firsts′ lasts′ waiting′ levels′ winners′ moves′ work′ : List ℕ} →
@@ -84,8 +83,8 @@ module _ {owners priorities starts targets heads nexts sources winners₀ moves�
           }
 
       -- nothing is open
-      pub lowering-all : r ≡ Nothing → Ran owners priorities starts targets heads nexts sources winners₀ moves₀ work₀ firsts₁ lasts waiting₁ levels winners moves work Done
-      lowering-all h =
+      pub lowering-all : {firsts₁ waiting₁ : List ℕ} {r : Picked} → Picks (length owners) low firsts waiting work firsts₁ waiting₁ r → r ≡ Nothing → Ran owners priorities starts targets heads nexts sources winners₀ moves₀ work₀ firsts₁ lasts waiting₁ levels winners moves work Done
+      lowering-all p h =
           record {
             moved = moved-more (s .moved) (picked-moved (s .moved .engine) (s .none-below) p);
             ends = picked-all (s .moved .engine) (s .none-below) p h;

@@ -9,7 +9,8 @@ use step::turn::turn;
 ghost use Rattle.step.specs.Stepping.{Engine};
 ghost use Rattle.orders.specs.Ending.{Ran, Fell};
 
-// Steps until nothing is open or the budget, one a step, is spent. It does what `step` does by itself: the call would cost a quarter of its time.
+// Steps until nothing is open or the budget, one a step, is spent. It does what `step` does by itself: with that call a relay
+// game takes an eighth more instructions.
 pub fn lowest(
     budget: usize,
     owners: &[u8],

@@ -82,7 +82,7 @@ loop-less c = omega (arith, c .before .before .before .before .before .before .b
 loop-again : tie.Need-loop-again Inv-loop μ-loop
 loop-again c =
     let s = (picked-steppable (c .before .before .before .before .before .before .before .before .before .before .before .before .before .before .before .before .before .before .before .before .before .before .before .before .before .before .before .before .before .loop .inv .moved .engine) (c .before .before .before .before .before .before .before .before .before .before .before .before .before .before .before .before .before .before .before .before .before .before .before .before .before .before .before .before .before .loop .inv .none-below) (c .before .before .before .before .before .before .before .before .before .before .before .before .before .before .before .before .before .before .before .before .before .before .before .before .pick .ensures) (c .before .before .before .before .before .before .before .before .before .before .before .before .before .before .before .before .before .before .picked .given .1)) in
-    lowering-step (c .before .before .before .before .before .before .before .before .before .before .before .before .before .before .before .before .before .before .before .before .before .before .before .before .before .before .before .before .before .loop .inv) (c .before .before .before .before .before .before .before .before .before .before .before .before .before .before .before .before .before .before .before .before .before .before .before .before .pick .ensures) (omega (arith, c .before .before .before .before .before .before .before .before .before .before .before .before .before .before .before .before .before .before .before .before .before .before .before .before .before .before .before .before .loop-test .taken)) (least-stepped _ _ _ _ _ _ _ _ _ _ _ _ _ _ _ s (c .before .before .before .before .before .before .before .before .before .before .before .before .before .before .before .test .ensures .0) (c .before .before .before .before .before .before .before .before .before .before .before .before .before .before .before .test .ensures .1) (by-keeping (turnable _ _ _ _ _ _ _ _ _ _ _ _ _ _ _ _ _ _ (s .engine) (fitting _ _ _ _ _ _ _ _ _ _ _ _ _ _ _ s (c .before .before .before .before .before .before .before .before .before .before .before .before .before .before .before .test .ensures .0) (c .before .before .before .before .before .before .before .before .before .before .before .before .before .before .before .test .ensures .1))) (c .before .before .before .before .before .before .before .before .before .before .if1 .taken ∙ c .before .before .before .before .before .before .before .before .before .before .before .before .before .of-priority .ensures) (c .before .before .before .before .before .before .keep .ensures .0) (c .before .before .before .before .before .before .keep .ensures .1 .0) (c .before .before .before .before .before .before .keep .ensures .1 .1)))
+    lowering-step (c .before .before .before .before .before .before .before .before .before .before .before .before .before .before .before .before .before .before .before .before .before .before .before .before .before .before .before .before .before .loop .inv) (omega (arith, c .before .before .before .before .before .before .before .before .before .before .before .before .before .before .before .before .before .before .before .before .before .before .before .before .before .before .before .before .loop-test .taken)) (least-stepped _ _ _ _ _ _ _ _ _ _ _ _ _ _ _ s (c .before .before .before .before .before .before .before .before .before .before .before .before .before .before .before .test .ensures .0) (c .before .before .before .before .before .before .before .before .before .before .before .before .before .before .before .test .ensures .1) (by-keeping (turnable _ _ _ _ _ _ _ _ _ _ _ _ _ _ _ _ _ _ (s .engine) (fitting _ _ _ _ _ _ _ _ _ _ _ _ _ _ _ s (c .before .before .before .before .before .before .before .before .before .before .before .before .before .before .before .test .ensures .0) (c .before .before .before .before .before .before .before .before .before .before .before .before .before .before .before .test .ensures .1))) (c .before .before .before .before .before .before .before .before .before .before .if1 .taken ∙ c .before .before .before .before .before .before .before .before .before .before .before .before .before .of-priority .ensures) (c .before .before .before .before .before .before .keep .ensures .0) (c .before .before .before .before .before .before .keep .ensures .1 .0) (c .before .before .before .before .before .before .keep .ensures .1 .1)))
 
 cast-turn : tie.Need-cast-turn Inv-loop μ-loop
 cast-turn c =
@@ -100,7 +100,7 @@ loop-less-2 c = omega (arith, c .before .before .before .before .before .before 
 loop-again-2 : tie.Need-loop-again-2 Inv-loop μ-loop
 loop-again-2 c =
     let s = (picked-steppable (c .before .before .before .before .before .before .before .before .before .before .before .before .before .before .before .before .before .before .before .before .before .before .before .before .before .before .before .before .before .before .before .before .before .before .before .before .before .before .before .before .before .loop .inv .moved .engine) (c .before .before .before .before .before .before .before .before .before .before .before .before .before .before .before .before .before .before .before .before .before .before .before .before .before .before .before .before .before .before .before .before .before .before .before .before .before .before .before .before .before .loop .inv .none-below) (c .before .before .before .before .before .before .before .before .before .before .before .before .before .before .before .before .before .before .before .before .before .before .before .before .before .before .before .before .before .before .before .before .before .before .before .before .pick .ensures) (c .before .before .before .before .before .before .before .before .before .before .before .before .before .before .before .before .before .before .before .before .before .before .before .before .before .before .before .before .before .before .picked .given .1)) in
-    lowering-step (c .before .before .before .before .before .before .before .before .before .before .before .before .before .before .before .before .before .before .before .before .before .before .before .before .before .before .before .before .before .before .before .before .before .before .before .before .before .before .before .before .before .loop .inv) (c .before .before .before .before .before .before .before .before .before .before .before .before .before .before .before .before .before .before .before .before .before .before .before .before .before .before .before .before .before .before .before .before .before .before .before .before .pick .ensures) (omega (arith, c .before .before .before .before .before .before .before .before .before .before .before .before .before .before .before .before .before .before .before .before .before .before .before .before .before .before .before .before .before .before .before .before .before .before .before .before .before .before .before .before .loop-test .taken)) (least-stepped _ _ _ _ _ _ _ _ _ _ _ _ _ _ _ s (c .before .before .before .before .before .before .before .before .before .before .before .before .before .before .before .before .before .before .before .before .before .before .before .before .before .before .before .test .ensures .0) (c .before .before .before .before .before .before .before .before .before .before .before .before .before .before .before .before .before .before .before .before .before .before .before .before .before .before .before .test .ensures .1) (by-turning (λ e. c .before .before .before .before .before .before .before .before .before .before .before .before .before .before .before .before .before .before .before .before .before .before .if1 .left (e ∙ sym (c .before .before .before .before .before .before .before .before .before .before .before .before .before .before .before .before .before .before .before .before .before .before .before .before .before .of-priority .ensures))) (c .before .before .before .before .before .before .before .before .before .before .before .before .before .before .turn .ensures)))
+    lowering-step (c .before .before .before .before .before .before .before .before .before .before .before .before .before .before .before .before .before .before .before .before .before .before .before .before .before .before .before .before .before .before .before .before .before .before .before .before .before .before .before .before .before .loop .inv) (omega (arith, c .before .before .before .before .before .before .before .before .before .before .before .before .before .before .before .before .before .before .before .before .before .before .before .before .before .before .before .before .before .before .before .before .before .before .before .before .before .before .before .before .loop-test .taken)) (least-stepped _ _ _ _ _ _ _ _ _ _ _ _ _ _ _ s (c .before .before .before .before .before .before .before .before .before .before .before .before .before .before .before .before .before .before .before .before .before .before .before .before .before .before .before .test .ensures .0) (c .before .before .before .before .before .before .before .before .before .before .before .before .before .before .before .before .before .before .before .before .before .before .before .before .before .before .before .test .ensures .1) (by-turning (λ e. c .before .before .before .before .before .before .before .before .before .before .before .before .before .before .before .before .before .before .before .before .before .before .if1 .left (e ∙ sym (c .before .before .before .before .before .before .before .before .before .before .before .before .before .before .before .before .before .before .before .before .before .before .before .before .before .of-priority .ensures))) (c .before .before .before .before .before .before .before .before .before .before .before .before .before .before .turn .ensures)))
 
 same-length-8 : tie.Need-same-length-8 Inv-loop μ-loop
 same-length-8 c = c .before .loop .inv .moved .engine .standing .lines .firsts-long ∙ sym (c .before .before .before .before .before .before .before .before .before .before .before .before .before .before .before .before .pre .standing .lines .firsts-long)
