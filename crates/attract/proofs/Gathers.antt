@@ -5,16 +5,16 @@ use mathlib.Core.List.{List}
 use native.Mathlib.Decide.{ℕ-discrete}
 use native.Mathlib.Omega.{arith}
 use lib.ListN.{length, getD}
-use Rattle.reach.specs.Lists.{nil}
-use Rattle.reach.specs.Work.{section}
+use Rattle.reach.specs.parts.Lists.{nil}
+use Rattle.reach.specs.parts.Work.{section}
 use Rattle.reach.proofs.Sections.{section-read}
-use Rattle.pick.specs.Lines.{Waits, Lines}
-use Rattle.pick.specs.Moves.{Standing}
-use Rattle.pick.specs.Order.{Fronted}
+use Rattle.pick.specs.parts.Lines.{Waits, Lines}
+use Rattle.pick.specs.parts.Moves.{Standing}
+use Rattle.pick.specs.parts.Order.{Fronted}
 use Rattle.pick.proofs.Picking.{standing-dropped}
 use Rattle.pick.proofs.Stamps.{lines-agree}
-use Rattle.attract.specs.Pile.{Piled}
-use Rattle.attract.specs.Gathering.{Lookable, SameWait, Looked, Gatherable, Gathered}
+use Rattle.attract.specs.parts.Pile.{Piled}
+use Rattle.attract.specs.parts.Gathering.{Lookable, SameWait, Looked, Gatherable, Gathered}
 use Rattle.attract.proofs.Piles.{piled-none}
 use Rattle.attract.proofs.Looking.{same-none, same-more}
 

@@ -7,8 +7,8 @@ use native.Mathlib.Decide.{ℕ-discrete}
 use native.Mathlib.Omega.{arith}
 use lib.ListN.{getD, set, length-set}
 use lib.Seq.{getD-set-same, getD-set-other}
-use Rattle.attract.specs.Pile.{PushedOn}
-use Rattle.attract.specs.Gathering.{Lookable, SameWait, Looked}
+use Rattle.attract.specs.parts.Pile.{PushedOn}
+use Rattle.attract.specs.parts.Gathering.{Lookable, SameWait, Looked}
 
 pub same-none : {waiting : List ℕ} → SameWait waiting waiting
 same-none = record { long = refl; on = λ w f. f; back = λ w f. f }

@@ -5,62 +5,63 @@ use mathlib.Core.Logic.{_≢_}
 use mathlib.Core.List.{List}
 use native.Mathlib.Omega.{arith}
 use lib.ListN.{length, getD}
-use Rattle.game.specs.Game.{Listed}
-use Rattle.game.specs.Tables.{nextOf, Stretch}
-use Rattle.game.specs.Answer.{markRoom, markOf}
+use Rattle.game.specs.promise.Game.{Listed}
+use Rattle.game.specs.promise.Tables.{nextOf, Tables, vertices}
+use Rattle.game.specs.parts.Stretch.{Stretch}
+use Rattle.game.specs.promise.Answer.{markRoom, markOf}
 use Rattle.game.proofs.Starts.{stretch-of}
-use Rattle.winning.specs.Answer.{noMove}
-use Rattle.levels.specs.Levels.{settledOf, Seen, FloorOf}
+use Rattle.winning.specs.promise.Answer.{noMove}
+use Rattle.levels.specs.parts.Levels.{settledOf, Seen, FloorOf}
 use Rattle.levels.proofs.Flags.{cell-open}
-use Rattle.attract.specs.Offering.{Grounds, AllSeen, Grounded, AllFor, Offerable, Offered}
+use Rattle.attract.specs.parts.Offering.{Grounds, AllSeen, Grounded, AllFor, Offerable, Offered}
 use Rattle.attract.specs.declared.offer.Ground.{Ground}
 use Rattle.attract.specs.declared.offer.Ground.the-variants.{Level}
 
-module _ {x u : ℕ} {owners priorities starts targets levels winners work : List ℕ} (p : Offerable x u owners priorities starts targets levels winners work) where
+module _ {x u : ℕ} {tables : Tables} {levels winners work : List ℕ} (p : Offerable x u tables levels winners work) where
   -- x and u have priorities
-  from-seen : x < length priorities
+  from-seen : x < length (tables .priorities)
   from-seen = omega (arith, p .edge .from, p .well-formed .level)
 
-  to-seen : u < length priorities
+  to-seen : u < length (tables .priorities)
   to-seen = omega (arith, p .edge .to, p .well-formed .level)
 
-  pub seen : Seen u priorities levels work
+  pub seen : Seen u (tables .priorities) levels work
   seen = record { vertex = to-seen; levels-long = p .known .levels-long; work-long = p .known .work-long }
 
   pub room : u < markRoom winners
   room = omega (arith, to-seen, p .known .room)
 
-  pub stretch : Stretch starts targets x
+  pub stretch : Stretch (tables .starts) (tables .targets) x
   stretch = stretch-of _ _ _ (p .well-formed .placed) x (p .edge .from)
 
   -- x's successors are seen
-  pub all-seen : (r : List ℕ) → r ≡ nextOf starts targets x → AllSeen r priorities levels winners work
+  pub all-seen : (r : List ℕ) → r ≡ nextOf (tables .starts) (tables .targets) x → AllSeen r (tables .priorities) levels winners work
   all-seen r e =
       record {
         known = p .known;
         vertex =
             λ i h.
-            let k : getD r i 0 < length owners = p .well-formed .sound .inside x _ (p .edge .from) (subst (Listed (getD r i 0)) e (record { at = i; within = h; is = refl })) in
+            let k : getD r i 0 < vertices tables = p .well-formed .sound .inside x _ (p .edge .from) (subst (Listed (getD r i 0)) e (record { at = i; within = h; is = refl })) in
             omega (arith, p .well-formed .level);
       }
 
   module _ (flag : getD work x 0 ≢ 0) where
-    unsettled : settledOf (length priorities) work x ≢ 1
+    unsettled : settledOf (length (tables .priorities)) work x ≢ 1
     unsettled = cell-open work (p .known .work-long) from-seen flag
 
     -- x's owner moves to u
-    pub offered-own : {w bound floor : ℕ} → w ≡ markOf winners u → getD owners x 0 ≡ w → FloorOf u priorities levels work floor → bound ≤ floor → getD priorities x 0 ≤ bound → Offered x w u floor owners priorities starts targets levels winners work
+    pub offered-own : {w bound floor : ℕ} → w ≡ markOf winners u → getD (tables .owners) x 0 ≡ w → FloorOf u (tables .priorities) levels work floor → bound ≤ floor → getD (tables .priorities) x 0 ≤ bound → Offered x w u floor tables levels winners work
     offered-own {w} {bound} {floor} e o f b l =
         record {
           unsettled = unsettled;
           player = rw e (p .player u (p .edge .to));
           tested = record { own = λ h. (p .edge, sym e); other = λ y ne. absurd (ne o); none = λ ne. absurd (ne o) };
           bounded = omega arith;
-          grounds = λ y a h. subst (Grounds priorities levels work floor) (sym (h o)) (record { floor = floor; is = f; high = omega arith });
+          grounds = λ y a h. subst (Grounds (tables .priorities) levels work floor) (sym (h o)) (record { floor = floor; is = f; high = omega arith });
         }
 
     -- all of x's successors have u's mark
-    pub offered-other : {w bound : ℕ} {r : List ℕ} {g : Ground} {level : ℕ} → w ≡ markOf winners u → getD owners x 0 ≢ w → r ≡ nextOf starts targets x → g ≡ Level level → AllFor w bound r priorities levels winners work g → getD priorities x 0 ≤ bound → Offered x w noMove level owners priorities starts targets levels winners work
+    pub offered-other : {w bound : ℕ} {r : List ℕ} {g : Ground} {level : ℕ} → w ≡ markOf winners u → getD (tables .owners) x 0 ≢ w → r ≡ nextOf (tables .starts) (tables .targets) x → g ≡ Level level → AllFor w bound r (tables .priorities) levels winners work g → getD (tables .priorities) x 0 ≤ bound → Offered x w noMove level tables levels winners work
     offered-other {w} {bound} {r} {g} {level} e o er eg a l =
         record {
           unsettled = unsettled;
@@ -70,11 +71,11 @@ module _ {x u : ℕ} {owners priorities starts targets levels winners work : Lis
           grounds = λ y h f. grounded y (h .listed);
         }
       where
-        all : Grounded w bound (nextOf starts targets x) priorities levels winners work level
-        all = subst (λ (k : List ℕ). Grounded w bound k priorities levels winners work level) er (subst (AllFor w bound r priorities levels winners work) eg a)
+        all : Grounded w bound (nextOf (tables .starts) (tables .targets) x) (tables .priorities) levels winners work level
+        all = subst (λ (k : List ℕ). Grounded w bound k (tables .priorities) levels winners work level) er (subst (AllFor w bound r (tables .priorities) levels winners work) eg a)
 
-        marked : (y : ℕ) → Listed y (nextOf starts targets x) → markOf winners y ≡ w
+        marked : (y : ℕ) → Listed y (nextOf (tables .starts) (tables .targets) x) → markOf winners y ≡ w
         marked y h = subst (λ (k : ℕ). markOf winners k ≡ w) (h .is) (all .mark (h .at) (h .within))
 
-        grounded : (y : ℕ) → Listed y (nextOf starts targets x) → Grounds priorities levels work level y
-        grounded y h = subst (Grounds priorities levels work level) (h .is) (all .grounds (h .at) (h .within))
+        grounded : (y : ℕ) → Listed y (nextOf (tables .starts) (tables .targets) x) → Grounds (tables .priorities) levels work level y
+        grounded y h = subst (Grounds (tables .priorities) levels work level) (h .is) (all .grounds (h .at) (h .within))

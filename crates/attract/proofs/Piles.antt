@@ -7,7 +7,7 @@ use native.Mathlib.Decide.{ℕ-discrete}
 use native.Mathlib.Omega.{arith}
 use lib.ListN.{length, getD, set, length-set}
 use lib.Seq.{getD-set-same, getD-set-other}
-use Rattle.attract.specs.Pile.{Piled, Pushable, PushedOn}
+use Rattle.attract.specs.parts.Pile.{Piled, Pushable, PushedOn}
 
 pub pushed-one : {x tail : ℕ} {stack : List ℕ} → Pushable x stack tail → tail ≢ length stack → PushedOn x stack tail (set stack tail x) (tail + 1)
 pushed-one {x} {tail} {stack} p ne =

@@ -6,9 +6,9 @@ use native.Mathlib.Decide.{ℕ-discrete}
 use native.Mathlib.Omega.{arith}
 use native.Mathlib.Nat.{not-suc-le-zero}
 use lib.ListN.{length, getD}
-use Rattle.game.specs.Answer.{markRoom, markOf}
-use Rattle.levels.specs.Levels.{Seen, FloorOf}
-use Rattle.attract.specs.Offering.{Grounds, AllSeen, Grounded}
+use Rattle.game.specs.promise.Answer.{markRoom, markOf}
+use Rattle.levels.specs.parts.Levels.{Seen, FloorOf}
+use Rattle.attract.specs.parts.Offering.{Grounds, AllSeen, Grounded}
 
 pub record Weighing (winner bound : ℕ) (stretch priorities levels winners work : List ℕ) (least i : ℕ) : Type 0 where
   pub bounded : bound ≤ least

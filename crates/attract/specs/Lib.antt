@@ -1,4 +1,1 @@
-pub mod Pile
-pub mod Offering
-pub mod Drawing
-pub mod Gathering
+pub mod parts

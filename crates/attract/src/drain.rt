@@ -2,7 +2,8 @@
 use crate::draw::visit;
 use crate::pile::Pile;
 ghost use Prim.Native.Nat.{_≤_};
-ghost use Rattle.attract.specs.Drawing.{Drainable, Drawn};
+ghost use Rattle.game.specs.promise.Lent.{asked, lent};
+ghost use Rattle.attract.specs.parts.Drawing.{Drainable, Drawn};
 
 // What is left of the budget, and a priority from which on nothing has been settled.
 pub struct Left {
@@ -31,9 +32,9 @@ pub fn drain(
     moves: &mut [u16],
     work: &mut [u16],
 ) -> Left
-    requires { ⌜ Drainable tail (now owners) (now priorities) (now starts) (now targets) (now heads) (now nexts) (now sources) (now firsts) (now lasts) (now waiting) (now levels) (now stack) (now winners) (now moves) (now work) ⌝ }
+    requires { ⌜ Drainable tail (asked owners priorities starts targets) (now heads) (now nexts) (now sources) (now firsts) (now lasts) (now waiting) (now levels) (now stack) (now winners) (now moves) (now work) ⌝ }
     ensures left { λ r. ⌜ r .budget ≤ budget ⌝ }
-    ensures moved { λ r. ⌜ Drawn 0 (now (owners .entry)) (now (priorities .entry)) (now (starts .entry)) (now (targets .entry)) (now (heads .entry)) (now (nexts .entry)) (now (sources .entry)) (now (winners .entry)) (now (moves .entry)) (now (work .entry)) (now (firsts .exit)) (now (lasts .exit)) (now (waiting .exit)) (now (levels .exit)) (now (stack .exit)) (now (winners .exit)) (now (moves .exit)) (now (work .exit)) ⌝ }
+    ensures moved { λ r. ⌜ Drawn 0 (lent owners priorities starts targets) (now (heads .entry)) (now (nexts .entry)) (now (sources .entry)) (now (winners .entry)) (now (moves .entry)) (now (work .entry)) (now (firsts .exit)) (now (lasts .exit)) (now (waiting .exit)) (now (levels .exit)) (now (stack .exit)) (now (winners .exit)) (now (moves .exit)) (now (work .exit)) ⌝ }
 {
     let mut pile = Pile { tail, top: 0 };
     let mut left = budget;

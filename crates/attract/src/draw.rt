@@ -4,8 +4,10 @@ use crate::offer::offer;
 use crate::pile::Pile;
 use crate::pile::larger;
 use crate::pile::push;
+use game::NIL;
 use step::step;
-ghost use Rattle.attract.specs.Drawing.{Drawable, Drawn, Visitable};
+ghost use Rattle.game.specs.promise.Lent.{asked, lent};
+ghost use Rattle.attract.specs.parts.Drawing.{Drawable, Drawn, DrawVisitable};
 
 // x, where an edge leads to u, gets the line that it can get through u, if any, and goes on the pile.
 fn draw(
@@ -29,8 +31,8 @@ fn draw(
     moves: &mut [u16],
     work: &mut [u16],
 ) -> Pile
-    requires { ⌜ Drawable x u (pile .tail) (now owners) (now priorities) (now starts) (now targets) (now heads) (now nexts) (now sources) (now firsts) (now lasts) (now waiting) (now levels) (now stack) (now winners) (now moves) (now work) ⌝ }
-    ensures { λ r. ⌜ Drawn (r .tail) (now (owners .entry)) (now (priorities .entry)) (now (starts .entry)) (now (targets .entry)) (now (heads .entry)) (now (nexts .entry)) (now (sources .entry)) (now (winners .entry)) (now (moves .entry)) (now (work .entry)) (now (firsts .exit)) (now (lasts .exit)) (now (waiting .exit)) (now (levels .exit)) (now (stack .exit)) (now (winners .exit)) (now (moves .exit)) (now (work .exit)) ⌝ }
+    requires { ⌜ Drawable x u (pile .tail) (asked owners priorities starts targets) (now heads) (now nexts) (now sources) (now firsts) (now lasts) (now waiting) (now levels) (now stack) (now winners) (now moves) (now work) ⌝ }
+    ensures { λ r. ⌜ Drawn (r .tail) (lent owners priorities starts targets) (now (heads .entry)) (now (nexts .entry)) (now (sources .entry)) (now (winners .entry)) (now (moves .entry)) (now (work .entry)) (now (firsts .exit)) (now (lasts .exit)) (now (waiting .exit)) (now (levels .exit)) (now (stack .exit)) (now (winners .exit)) (now (moves .exit)) (now (work .exit)) ⌝ }
 {
     let offered = offer(
         x,
@@ -92,12 +94,12 @@ pub fn visit(
     moves: &mut [u16],
     work: &mut [u16],
 ) -> Pile
-    requires { ⌜ Visitable u (pile .tail) (now owners) (now priorities) (now starts) (now targets) (now heads) (now nexts) (now sources) (now firsts) (now lasts) (now waiting) (now levels) (now stack) (now winners) (now moves) (now work) ⌝ }
-    ensures { λ r. ⌜ Drawn (r .tail) (now (owners .entry)) (now (priorities .entry)) (now (starts .entry)) (now (targets .entry)) (now (heads .entry)) (now (nexts .entry)) (now (sources .entry)) (now (winners .entry)) (now (moves .entry)) (now (work .entry)) (now (firsts .exit)) (now (lasts .exit)) (now (waiting .exit)) (now (levels .exit)) (now (stack .exit)) (now (winners .exit)) (now (moves .exit)) (now (work .exit)) ⌝ }
+    requires { ⌜ DrawVisitable u (pile .tail) (asked owners priorities starts targets) (now heads) (now nexts) (now sources) (now firsts) (now lasts) (now waiting) (now levels) (now stack) (now winners) (now moves) (now work) ⌝ }
+    ensures { λ r. ⌜ Drawn (r .tail) (lent owners priorities starts targets) (now (heads .entry)) (now (nexts .entry)) (now (sources .entry)) (now (winners .entry)) (now (moves .entry)) (now (work .entry)) (now (firsts .exit)) (now (lasts .exit)) (now (waiting .exit)) (now (levels .exit)) (now (stack .exit)) (now (winners .exit)) (now (moves .exit)) (now (work .exit)) ⌝ }
 {
     let mut drawn = pile;
     let mut e = heads[u] as usize;
-    while e < 65535 {
+    while e < NIL {
         let x = sources[e] as usize;
         e = nexts[e] as usize;
         drawn = draw(

@@ -1,4 +1,5 @@
 // The line that an open vertex can get through one of its successors.
+use game::NONE;
 use game::answer::mark;
 use game::vertex::successors;
 use game::vertex::wide;
@@ -6,7 +7,8 @@ use levels::floor;
 use step::test::Line;
 ghost use mathlib.Core.Path.{_≡_};
 ghost use Prim.Native.Nat.{min, _≤_};
-ghost use Rattle.attract.specs.Offering.{AllSeen, AllFor, Offerable, Offers};
+ghost use Rattle.game.specs.promise.Lent.{asked, lent};
+ghost use Rattle.attract.specs.parts.Offering.{AllSeen, AllFor, Offerable, Offers};
 
 // A line, or none for now.
 pub enum Chance {
@@ -39,7 +41,7 @@ fn all_for(
     requires { ⌜ AllSeen (now stretch) (now priorities) (now levels) (now winners) (now work) ⌝ }
     ensures { λ r. ⌜ AllFor winner bound (now (stretch .entry)) (now (priorities .entry)) (now (levels .entry)) (now (winners .entry)) (now (work .entry)) r ⌝ }
 {
-    let mut least: u16 = 65535;
+    let mut least: u16 = NONE;
     let mut i = 0;
     while i < stretch.len() {
         let t = wide(stretch[i]);
@@ -78,8 +80,8 @@ pub fn offer(
     winners: &[u8],
     work: &[u16],
 ) -> Chance
-    requires { ⌜ Offerable x u (now owners) (now priorities) (now starts) (now targets) (now levels) (now winners) (now work) ⌝ }
-    ensures { λ r. ⌜ Offers x (now (owners .entry)) (now (priorities .entry)) (now (starts .entry)) (now (targets .entry)) (now (levels .entry)) (now (winners .entry)) (now (work .entry)) r ⌝ }
+    requires { ⌜ Offerable x u (asked owners priorities starts targets) (now levels) (now winners) (now work) ⌝ }
+    ensures { λ r. ⌜ Offers x (lent owners priorities starts targets) (now (levels .entry)) (now (winners .entry)) (now (work .entry)) r ⌝ }
 {
     if work[x] == 0 {
         return Chance::Nothing;
@@ -111,7 +113,7 @@ pub fn offer(
     };
     Chance::Gets(Line {
         winner,
-        to: 65535,
+        to: NONE,
         level,
     })
 }

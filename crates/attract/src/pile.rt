@@ -1,5 +1,5 @@
 // The vertices from which to attract next, the last first.
-ghost use Rattle.attract.specs.Pile.{Pushable, PushedOn};
+ghost use Rattle.attract.specs.parts.Pile.{Pushable, PushedOn};
 
 // How many vertices are on the pile, and a priority from which on nothing has been settled since the last sweep.
 pub struct Pile {

@@ -3,12 +3,14 @@ use crate::drain::Left;
 use crate::drain::drain;
 use crate::pile::larger;
 use crate::pile::push;
+use game::NONE;
 use pick::front;
 ghost use mathlib.Core.Path.{_≡_};
 ghost use Prim.Native.Nat.{_≤_};
 ghost use lib.ListN.{length};
-ghost use Rattle.attract.specs.Gathering.{Gatherable, Gathered, Lookable, Looked};
-ghost use Rattle.attract.specs.Drawing.{Drainable, Drawn};
+ghost use Rattle.game.specs.promise.Lent.{asked, lent};
+ghost use Rattle.attract.specs.parts.Gathering.{Gatherable, Gathered, Lookable, Looked};
+ghost use Rattle.attract.specs.parts.Drawing.{Drainable, Drawn};
 
 // x, who stands in a line, goes on the pile if he is new there and open; he is new no longer.
 fn look(x: usize, waiting: &mut [u16], stack: &mut [u16], work: &[u16], tail: usize) -> usize
@@ -42,7 +44,7 @@ fn gather(
     let mut tail = 0;
     let mut i = 0;
     while i < n {
-        if v == 65535 {
+        if v == NONE {
             return tail;
         }
         let x = v as usize;
@@ -67,7 +69,7 @@ fn below(firsts: &[u16], p: usize) -> usize
     let mut q = p;
     while 0 < q {
         let k = q - 1;
-        if firsts[k] != 65535 {
+        if firsts[k] != NONE {
             return q;
         }
         q = k;
@@ -95,9 +97,9 @@ pub fn sweep(
     moves: &mut [u16],
     work: &mut [u16],
 ) -> Left
-    requires { ⌜ Drainable 0 (now owners) (now priorities) (now starts) (now targets) (now heads) (now nexts) (now sources) (now firsts) (now lasts) (now waiting) (now levels) (now stack) (now winners) (now moves) (now work) ⌝ }
+    requires { ⌜ Drainable 0 (asked owners priorities starts targets) (now heads) (now nexts) (now sources) (now firsts) (now lasts) (now waiting) (now levels) (now stack) (now winners) (now moves) (now work) ⌝ }
     ensures left { λ r. ⌜ r .budget ≤ budget ⌝ }
-    ensures moved { λ r. ⌜ Drawn 0 (now (owners .entry)) (now (priorities .entry)) (now (starts .entry)) (now (targets .entry)) (now (heads .entry)) (now (nexts .entry)) (now (sources .entry)) (now (winners .entry)) (now (moves .entry)) (now (work .entry)) (now (firsts .exit)) (now (lasts .exit)) (now (waiting .exit)) (now (levels .exit)) (now (stack .exit)) (now (winners .exit)) (now (moves .exit)) (now (work .exit)) ⌝ }
+    ensures moved { λ r. ⌜ Drawn 0 (lent owners priorities starts targets) (now (heads .entry)) (now (nexts .entry)) (now (sources .entry)) (now (winners .entry)) (now (moves .entry)) (now (work .entry)) (now (firsts .exit)) (now (lasts .exit)) (now (waiting .exit)) (now (levels .exit)) (now (stack .exit)) (now (winners .exit)) (now (moves .exit)) (now (work .exit)) ⌝ }
 {
     let n = owners.len();
     let mut left = budget;

@@ -3,14 +3,14 @@ use Prim.Native.Nat.{ℕ, zero, suc}
 use mathlib.Core.Bool.{Bool, cond, not, _&&_, _||_}
 use mathlib.Core.Logic.{_⊎_, inl, inr, _≢_}
 use lib.Dec.{eqb}
-use Rattle.game.specs.Game.{Game, Edge}
-use Rattle.winning.specs.Walk.{Walk}
-use Rattle.winning.specs.Verdict.{via, lowest, isAt, isEdge}
+use Rattle.game.specs.promise.Game.{Game, Edge}
+use Rattle.winning.specs.promise.Walk.{Walk}
+use Rattle.winning.specs.parts.Verdict.{via, lowest, isAt, isEdge}
 use Rattle.winning.proofs.Reflect.{Tests, holds, fails, tests-map, tests-not, tests-and, tests-or, tests-eq}
 use Rattle.winning.proofs.Edges.{tests-edge}
 use Rattle.winning.proofs.Reachable.{walk-tests}
 use Rattle.winning.proofs.Search.{tests-some}
-use Rattle.update.specs.Amended.{Differs, owner, priority, successors, Reaches, Number, none, one, skip}
+use Rattle.update.specs.promise.Amended.{Differs, owner, priority, successors, Reaches, CountOf, none, one, skip}
 use Rattle.cases.proofs.Equal.{isSame, tests-same}
 
 -- whether there is a walk
@@ -44,24 +44,24 @@ module _ (g h : Game) where
 
   -- whether a path of the second game leads from v to a differing vertex
   abbrev pub isReaching : ℕ → Bool
-  isReaching v = isAt (lowest (λ u. isDiffering u && isWalk h v u) (g .n))
+  isReaching v = isAt (lowest (λ u. isDiffering u && isWalk h v u) (h .n))
 
-  pub tests-reaches : (v : ℕ) → Tests (Reaches h g h v) (isReaching v)
+  pub tests-reaches : (v : ℕ) → Tests (Reaches g h v) (isReaching v)
   tests-reaches v =
       tests-map
       (λ t. record { to = t .0; vertex = t .1 .below; differs = t .1 .has .0; path = t .1 .has .1 })
       (λ r. (r .to, record { below = r .vertex; has = (r .differs, r .path) }))
-      (tests-some (λ u. Differs g h u × Walk (Edge h) v u) _ (λ u. tests-and (tests-differs u) (tests-walk h v u)) (g .n))
+      (tests-some (λ u. Differs g h u × Walk (Edge h) v u) _ (λ u. tests-and (tests-differs u) (tests-walk h v u)) (h .n))
 
 -- how many numbers below n pass
-abbrev pub countOf : (ℕ → Bool) → ℕ → ℕ
-countOf t zero = 0
-countOf t (suc n) = cond (t n) (suc (countOf t n)) (countOf t n)
+abbrev pub howMany : (ℕ → Bool) → ℕ → ℕ
+howMany t zero = 0
+howMany t (suc n) = cond (t n) (suc (howMany t n)) (howMany t n)
 
-pub number-of : {P : ℕ → Type 0} {t : ℕ → Bool} → ((v : ℕ) → Tests (P v) (t v)) → (n : ℕ) → Number P n (countOf t n)
-number-of r zero = none
-number-of {P} r (suc n) = next (r n) (number-of r n)
+pub how-many : {P : ℕ → Type 0} {t : ℕ → Bool} → ((v : ℕ) → Tests (P v) (t v)) → (n : ℕ) → CountOf P n (howMany t n)
+how-many r zero = none
+how-many {P} r (suc n) = next (r n) (how-many r n)
   where
-    next : {b : Bool} {c : ℕ} → Tests (P n) b → Number P n c → Number P (suc n) (cond b (suc c) c)
+    next : {b : Bool} {c : ℕ} → Tests (P n) b → CountOf P n c → CountOf P (suc n) (cond b (suc c) c)
     next (holds p) a = one p a
     next (fails h) a = skip h a

@@ -1,114 +1,88 @@
 -- The checker's rows of the table.
 use Prim.Native.Nat.{ℕ, _*_, _<_}
-use mathlib.Core.Path.{_≡_, refl, sym, subst, ap, ap₂}
+use mathlib.Core.Path.{_≡_, refl, subst, ap₂}
 use mathlib.Core.Bool.{Bool, true, cond, _&&_}
-use mathlib.Core.Logic.{_≢_}
-use mathlib.Core.List.{List, []}
-use native.Mathlib.Nat.{not-le-of-lt}
+use mathlib.Core.List.{List, [], _∷_}
 use native.Mathlib.Omega.{arith}
-use lib.Dec.{T, eqb}
+use lib.Dec.{T}
 use lib.ListN.{length, length-replicate, getD-replicate}
-use Rattle.refusal.specs.Row.{Row, Said, success, refused, Gives, None, First, first-not-none, first-unique, first-number}
-use Rattle.game.specs.Buffers.{Zeroed}
-use Rattle.game.proofs.Sizes.{lengths-fit}
-use Rattle.winning.proofs.Reflect.{Tests, holds, fails, tests-and, tests-eq, tests-lt}
-use Rattle.checker.specs.Checking.{afterTables, checkRows}
-use Rattle.game.proofs.Zeros.{zeroed-unique}
-use Rattle.cases.specs.Games.{FourTables, size}
-use Rattle.cases.specs.Table.{checked, judgement, Checking, zeros, workAfter, Only, Holds}
+use Rattle.refusal.specs.promise.Row.{Said, success, refused, row, Gives, First}
+use Rattle.refusal.proofs.Rows.{none-left, none-right, first-front, first-number}
+use Rattle.game.specs.promise.Tables.{Tables, vertices, gameOf}
+use Rattle.game.specs.promise.Answer.{Answer, markOf, moveOf}
+use Rattle.game.specs.promise.Faults.{tableRows}
+use Rattle.game.specs.promise.Lent.{Fault8, lentSizes, Zeroed, Judging, Leaves}
+use Rattle.game.proofs.Sizes.{none-of-fit}
+use Rattle.winning.proofs.Reflect.{Tests, holds, fails, tests-map, tests-and, tests-le}
+use Rattle.winning.proofs.Accepted.{accepted-right, right-accepted}
+use Rattle.checker.specs.promise.Checking.{IsRight, judgeRows, beforeRows, checkRows}
+use Rattle.checker.proofs.Unique.{checks-unique}
+use Rattle.cases.specs.promise.Table.{checked, judgement, Checking, zeros, workAfter, RowHolds}
 use Rattle.cases.proofs.Equal.{by-test, tests-itself, isSame, tests-same, isSaid, same-said}
-use Rattle.cases.proofs.Verdicts.{thenSaid, gives-then, gives-past, rowsOf, tested, tested-gives, judged, judged-gives}
+use Rattle.cases.proofs.TableTests.{tableVerdict, table-gives}
+use Rattle.cases.proofs.Verdicts.{thenSaid, gives-then, isLong, tests-long, judged, judged-gives}
 
 pub zeros-zeroed : (work : List ℕ) → Zeroed work (zeros work)
 zeros-zeroed work =
     let e : length (zeros work) ≡ length work = length-replicate (length work) 0 in
     record { long = e; zero = λ i l. getD-replicate (length work) i 0 0 (omega arith) }
 
--- the work space after a refusal, by whether its number is below 10
-module _ (k : ℕ) (work : List ℕ) where
-  unchanged : {b : Bool} → Tests (k < 10) b → k < 10 → cond b work (zeros work) ≡ work
-  unchanged (holds l) m = refl
-  unchanged (fails h) m = absurd (h m)
-
-  zeroed : {b : Bool} → Tests (k < 10) b → 10 < k → Zeroed work (cond b work (zeros work))
-  zeroed (holds l) m = absurd (not-le-of-lt l (omega arith))
-  zeroed (fails h) m = zeros-zeroed work
-
-  left :
-      {b : Bool} {after : List ℕ} → Tests (k < 10) b → k ≢ 10 → (k < 10 → after ≡ work) → (10 < k → Zeroed work after) →
-      after ≡ cond b work (zeros work)
-  left (holds l) ne same zero = same l
-  left (fails h) ne same zero = zeroed-unique (zero (omega arith)) (zeros-zeroed work)
+-- the work space after a refusal is what its number leaves
+refusal-leaves : (k x : ℕ) (work : List ℕ) → Leaves k work (workAfter (refused k x) work)
+refusal-leaves k x work =
+    by (tests-map (λ t. record { least = t .0; most = t .1 }) (λ j. (j .least, j .most)) (tests-and (tests-le 11 k) (tests-le k 14)))
+  where
+    by : {b : Bool} → Tests (Judging k) b → Leaves k work (cond b (zeros work) work)
+    by (holds j) = record { zeroed = λ _. zeros-zeroed work; same = λ h. absurd (h j) }
+    by (fails h) = record { zeroed = λ j. absurd (h j); same = λ _. refl }
 
 -- the checker's success hands nothing back
 abbrev noValues : Said → Bool
 noValues (success values) = isSame values []
 noValues (refused k x) = true
 
-module _ (g : FourTables) (winners moves : List ℕ) where
+module _ (t : Tables) (a : Answer) where
   -- what the checker says, computed
   abbrev checkSaid : Said
-  checkSaid = thenSaid (tested g) (judged g winners moves)
+  checkSaid = thenSaid (tableVerdict t) (judged t a)
 
   -- whether it says this
   abbrev pub isChecked : Said → Bool
-  isChecked said = (eqb (length winners) (size g) && eqb (length moves) (size g)) && (isSaid checkSaid said && noValues said)
+  isChecked said = isLong t a && (isSaid checkSaid said && noValues said)
 
   module _ (work : List ℕ) where
-    abbrev later : List Row
-    later = afterTables (g .owners) (g .priorities) (g .starts) (g .targets) winners moves work
+    said-gives : length (a .winners) ≡ vertices t → length (a .moves) ≡ vertices t → length work ≡ 4 * vertices t → Gives (checkRows t a work) checkSaid
+    said-gives p q r =
+        let sizes = lentSizes (vertices t) (length (a .winners)) (length (a .moves)) (length work) in
+        let fit = none-of-fit sizes (p, (q, (r, tt))) in
+        gives-then (tableRows t) (row 8 (Fault8 sizes) ∷ judgeRows t a) (tableVerdict t) (judged t a) (table-gives t)
+        (gives-then (row 8 (Fault8 sizes) ∷ []) (judgeRows t a) (success []) (judged t a) (fit, tt) (judged-gives t a))
 
-    abbrev rows : List Row
-    rows = checkRows (g .owners) (g .priorities) (g .starts) (g .targets) winners moves work
+    -- 11 to 14 are given to answers that are not right
+    wrong : (k x : ℕ) → First (checkRows t a work) k x → Judging k → ¬ IsRight t a
+    wrong k x f j r =
+        let before = first-front (beforeRows t a work) (judgeRows t a) k x (right-accepted (gameOf t) (markOf (a .winners)) (moveOf (a .moves)) r) f in
+        let low : k < 11 = first-number (λ (m : ℕ). m < 11) (beforeRows t a work) k x (omega arith) before in
+        omega (arith, j .least)
 
-    said-gives : length winners ≡ size g → length moves ≡ size g → length work ≡ 4 * size g → Gives rows checkSaid
-    said-gives a b c =
-        gives-then (rowsOf g) later (tested g) (judged g winners moves) (tested-gives g)
-        (gives-past _ _ (judged g winners moves) (lengths-fit (size g) (length winners) (length moves) (length work) a b c) (judged-gives g winners moves))
-
-    -- acceptance is all that is promised where no row applies
-    accepts : None rows → Only (Checking g winners moves work) (judgement (success []) (zeros work))
-    accepts n = record { allowed = record { none = n; no-value = refl; zeroed = zeros-zeroed work }; no-other = λ j p. other (j .said) (j .work) p }
-      where
-        other :
-            (said : Said) (after : List ℕ) → Checking g winners moves work (judgement said after) →
-            judgement said after ≡ judgement (success []) (zeros work)
-        other (success values) after p = ap₂ judgement (ap success (p .no-value)) (zeroed-unique (p .zeroed) (zeros-zeroed work))
-        other (refused k x) after p = absurd (first-not-none rows k x (p .first) n)
-
-    -- and a refusal where it is the first that applies
-    refuses : (k x : ℕ) → First rows k x → Only (Checking g winners moves work) (judgement (refused k x) (workAfter (refused k x) work))
-    refuses k x f =
+    allowed : (said : Said) → Gives (checkRows t a work) said → T (noValues said) → Checking t a work (judgement said (workAfter said work))
+    allowed (success values) n v =
         record {
-          allowed = record { first = f; unchanged = unchanged k work (tests-lt k 10); zeroed = zeroed k work (tests-lt k 10) };
-          no-other = λ j p. other (j .said) (j .work) p;
+          none = none-left (beforeRows t a work) (judgeRows t a) n;
+          right = accepted-right (gameOf t) (markOf (a .winners)) (moveOf (a .moves)) (none-right (beforeRows t a work) (judgeRows t a) n);
+          no-value = by-test (tests-same values []) v;
+          zeroed = zeros-zeroed work;
         }
-      where
-        ten : k ≢ 10
-        ten = first-number (λ (m : ℕ). m ≢ 10) rows k x (omega arith) f
+    allowed (refused k x) f v = record { first = f; wrong = wrong k x f; leaves = refusal-leaves k x work }
 
-        other :
-            (said : Said) (after : List ℕ) → Checking g winners moves work (judgement said after) →
-            judgement said after ≡ judgement (refused k x) (workAfter (refused k x) work)
-        other (success values) after p = absurd (first-not-none rows k x f (p .none))
-        other (refused l y) after p =
-            let e : refused l y ≡ refused k x = first-unique rows l k y x (p .first) f in
-            let n : l ≡ k = cc in
-            ap₂ judgement e (left k work (tests-lt k 10) ten (λ m. p .unchanged (omega arith)) (λ m. p .zeroed (omega arith)))
-
-    only-said :
-        (said : Said) → Gives rows said → T (noValues said) → Only (Checking g winners moves work) (judgement said (workAfter said work))
-    only-said (success values) n t =
-        let e : values ≡ [] = by-test (tests-same values []) t in
-        subst (λ (v : List ℕ). Only (Checking g winners moves work) (judgement (success v) (zeros work))) (sym e) (accepts n)
-    only-said (refused k x) f t = refuses k x f
-
-  pub checked-holds : (said : Said) → T (isChecked said) → Holds (checked g winners moves said)
-  checked-holds said t work c =
-      let p =
-      by-test
-      (tests-and (tests-and (tests-eq (length winners) (size g)) (tests-eq (length moves) (size g)))
-      (tests-and (tests-itself (isSaid checkSaid said)) (tests-itself (noValues said))))
-      t
-      in
-      only-said work said (subst (Gives (rows work)) (same-said checkSaid said (p .1 .0)) (said-gives work (p .0 .0) (p .0 .1) c)) (p .1 .1)
+  pub checked-holds : (said : Said) → T (isChecked said) → RowHolds (checked t a said)
+  checked-holds said c work e =
+      let p = by-test (tests-and (tests-long t a) (tests-and (tests-itself (isSaid checkSaid said)) (tests-itself (noValues said)))) c in
+      let gives = subst (Gives (checkRows t a work)) (same-said checkSaid said (p .1 .0)) (said-gives work (p .0 .0) (p .0 .1) e) in
+      let ok = allowed work said gives (p .1 .1) in
+      record {
+        allowed = ok;
+        no-other = λ j q.
+            let same = checks-unique t a work (j .work) (workAfter said work) (j .said) said q ok in
+            ap₂ judgement (same .0) (same .1);
+      }

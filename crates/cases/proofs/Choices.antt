@@ -8,15 +8,15 @@ use native.Mathlib.Nat.{not-suc-le-zero, zero-lt-suc, le-of-suc-le-suc, eq-or-lt
 use native.Mathlib.Omega.{arith}
 use lib.Dec.{T}
 use lib.ListN.{length, getD}
-use Rattle.game.specs.Game.{Listed}
+use Rattle.game.specs.promise.Game.{Listed}
 use Rattle.cases.proofs.Equal.{both-tests}
 
 -- whether all numbers of the list pass
-abbrev pub everyOf : (ℕ → Bool) → List ℕ → Bool
+abbrev everyOf : (ℕ → Bool) → List ℕ → Bool
 everyOf t [] = true
 everyOf t (x ∷ l) = t x && everyOf t l
 
-pub at-listed : (t : ℕ → Bool) (l : List ℕ) → T (everyOf t l) → (w : ℕ) → Listed w l → T (t w)
+at-listed : (t : ℕ → Bool) (l : List ℕ) → T (everyOf t l) → (w : ℕ) → Listed w l → T (t w)
 at-listed t l h w m = at l h (m .at) (m .within) (m .is)
   where
     at : (l : List ℕ) → T (everyOf t l) → (i : ℕ) → i < length l → getD l i 0 ≡ w → T (t w)

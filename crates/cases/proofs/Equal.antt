@@ -6,7 +6,7 @@ use mathlib.Core.List.{List, [], _∷_}
 use native.Mathlib.Omega.{arith}
 use lib.Dec.{T, eqb}
 use lib.ListN.{length}
-use Rattle.refusal.specs.Row.{Said, success, refused}
+use Rattle.refusal.specs.promise.Row.{Said, success, refused}
 use Rattle.winning.proofs.Reflect.{Tests, holds, fails, tests-map, tests-and, tests-eq}
 
 -- what a passed test says

@@ -1,93 +1,72 @@
 -- The solver's rows of the table.
 use Prim.Native.Nat.{ℕ}
-use mathlib.Core.Path.{_≡_, refl, sym, subst, _∙_}
-use mathlib.Core.Bool.{Bool, _&&_}
-use mathlib.Core.List.{List, [], _∷_}
+use mathlib.Core.Path.{_≡_, refl, sym, subst}
+use mathlib.Core.Bool.{Bool, true, _&&_}
+use mathlib.Core.List.{[], _∷_}
 use lib.Dec.{T}
 use lib.ListN.{length}
-use Rattle.refusal.specs.Row.{Row, Said, success, refused, Gives, None, First, none-append, first-left, first-not-none, first-unique}
-use Rattle.game.specs.Buffers.{Fault8}
-use Rattle.game.proofs.Sizes.{lengths-fit}
-use Rattle.game.proofs.Zeros.{zeroed-unique}
-use Rattle.solver.specs.Solving.{solveRows}
-use Rattle.cases.specs.Games.{FourTables, size}
-use Rattle.cases.specs.Table.{solved, unsolved, Lent, Fits, outcome, Solving, zeros, Holds}
-use Rattle.cases.proofs.Equal.{both-tests, isSaid, same-said}
-use Rattle.cases.proofs.Verdicts.{Formed, rowsOf, tested, tested-gives}
-use Rattle.cases.proofs.Checked.{zeros-zeroed}
-use Rattle.cases.proofs.Answers.{movesAt, move-listed, isAnswer, Answered, answered, onlyMoves, only-answer}
-
-module _ (g : FourTables) (lent : Lent) where
-  -- the one row after those of the tables
-  abbrev row8 : Row
-  row8 = record { number = 8; applies = Fault8 (size g) (length (lent .winners)) (length (lent .moves)) (length (lent .work)) }
-
-  abbrev rows : List Row
-  rows = solveRows (g .owners) (g .priorities) (g .starts) (g .targets) (lent .winners) (lent .moves) (lent .work)
-
-  -- none applies to well-formed tables and buffers that fit
-  no-row : Formed g → Fits (size g) lent → None rows
-  no-row w f =
-      none-append (rowsOf g) (row8 ∷ []) (w .none)
-      (lengths-fit (size g) (length (lent .winners)) (length (lent .moves)) (length (lent .work)) (f .winners-long) (f .moves-long) (f .work-long), tt)
+use Rattle.refusal.specs.promise.Row.{Said, success, refused, row, Gives}
+use Rattle.refusal.proofs.Rows.{first-left}
+use Rattle.game.specs.promise.Tables.{Tables, vertices}
+use Rattle.game.specs.promise.Answer.{Answer}
+use Rattle.game.specs.promise.Faults.{tableRows}
+use Rattle.game.specs.promise.Lent.{Lent, Fault8, lentSizes}
+use Rattle.game.proofs.Lent.{lent-fits}
+use Rattle.winning.proofs.Reflect.{holds, tests-and}
+use Rattle.solver.specs.promise.Solving.{Solves, Answers}
+use Rattle.solver.proofs.Unique.{solves-unique}
+use Rattle.cases.specs.promise.Table.{solved, unsolved, Fits, Outcome, outcome, Solving, zeros, RowHolds}
+use Rattle.cases.proofs.Equal.{by-test, tests-itself, both-tests, isSaid, same-said}
+use Rattle.cases.proofs.TableTests.{tableVerdict, table-gives}
+use Rattle.cases.proofs.Verdicts.{areBytes, tests-bytes}
+use Rattle.cases.proofs.Answers.{isAnswer, Answered, answered, written, onlyMoves, only-answer}
 
 -- the solver may give any right answer
 pub answer-allowed :
-    (g : FourTables) (winners moves : List ℕ) → Answered g winners moves → (lent : Lent) → Fits (size g) lent →
-    Solving g lent (outcome (success []) winners moves (zeros (lent .work)))
-answer-allowed g winners moves a lent f =
-    record {
-      none = no-row g lent (a .formed) f;
-      no-value = refl;
-      winners-long = a .winners-long ∙ sym (f .winners-long);
-      moves-long = a .moves-long ∙ sym (f .moves-long);
-      accepted = a .accepted;
-      zeroed = zeros-zeroed (lent .work);
-    }
+    (t : Tables) (a : Answer) → Answered t a → (lent : Lent) → Fits (vertices t) lent → Solving t lent (outcome (success []) a (zeros (lent .work)))
+answer-allowed t a p lent f = record { none = lent-fits t _ _ _ (p .formed) f; no-value = refl; written = written t a p lent f }
+
+-- the solver decides every line
+abbrev everywhere : ℕ → Bool
+everywhere v = true
 
 -- whether this is the only right answer
-abbrev pub isSolved : FourTables → (winners moves : List ℕ) → Bool
-isSolved g winners moves = isAnswer g winners moves && onlyMoves g winners moves (movesAt g winners)
+abbrev pub isSolved : Tables → Answer → Bool
+isSolved t a = isAnswer t a && onlyMoves t a everywhere
 
-pub solved-holds : (g : FourTables) (winners moves : List ℕ) → T (isSolved g winners moves) → Holds (solved g winners moves)
-solved-holds g winners moves t lent f =
-    record { allowed = answer-allowed g winners moves a lent f; no-other = λ o p. other (o .said) (o .winners) (o .moves) (o .work) p }
+pub solved-holds : (t : Tables) (a : Answer) → T (isSolved t a) → RowHolds (solved t a)
+solved-holds t a h lent f = record { allowed = ok; no-other = other }
   where
-    s : T (isAnswer g winners moves) × T (onlyMoves g winners moves (movesAt g winners))
-    s = both-tests (isAnswer g winners moves) (onlyMoves g winners moves (movesAt g winners)) t
+    s : T (isAnswer t a) × T (onlyMoves t a everywhere)
+    s = both-tests (isAnswer t a) (onlyMoves t a everywhere) h
 
-    a : Answered g winners moves
-    a = answered g winners moves (s .0)
+    p : Answered t a
+    p = answered t a (s .0)
 
-    other :
-        (said : Said) (winners′ moves′ work′ : List ℕ) → Solving g lent (outcome said winners′ moves′ work′) →
-        outcome said winners′ moves′ work′ ≡ outcome (success []) winners moves (zeros (lent .work))
-    other (success values) winners′ moves′ work′ p =
-        let e =
-        only-answer g winners moves a (movesAt g winners) (s .1) winners′ moves′ (p .winners-long ∙ f .winners-long) (p .moves-long ∙ f .moves-long)
-        (p .accepted) (move-listed g winners moves′)
-        in
-        let z : work′ ≡ zeros (lent .work) = zeroed-unique (p .zeroed) (zeros-zeroed (lent .work)) in
-        λ i. outcome (success (p .no-value i)) (e .0 i) (e .1 i) (z i)
-    other (refused k x) winners′ moves′ work′ p = absurd (first-not-none (rows g lent) k x (p .first) (no-row g lent (a .formed) f))
+    ok : Solving t lent (outcome (success []) a (zeros (lent .work)))
+    ok = answer-allowed t a p lent f
+
+    other : (o : Outcome) → Solving t lent o → o ≡ outcome (success []) a (zeros (lent .work))
+    other o q =
+        let e = solves-unique t lent (p .bytes) _ (o .left) (success []) (o .said) ok q in
+        let q′ : Answers t lent (o .left) [] = subst (λ (said : Said). Solves t lent (o .left) said) (sym (e .said)) q in
+        let same = only-answer t a everywhere {Anew = λ v. Unit {0}} (λ v. holds tt) (s .1) p lent (o .left) f (q′ .written) (e .lines) (λ v l n. absurd (n tt)) in
+        sym (λ i. outcome (e .said i) (same i) (e .work i))
 
 -- whether the tables are refused so
-abbrev pub isUnsolved : FourTables → (number place : ℕ) → Bool
-isUnsolved g number place = isSaid (tested g) (refused number place)
+abbrev pub isUnsolved : Tables → (number place : ℕ) → Bool
+isUnsolved t number place = areBytes (t .priorities) && isSaid (tableVerdict t) (refused number place)
 
-pub unsolved-holds : (g : FourTables) (number place : ℕ) → T (isUnsolved g number place) → Holds (unsolved g number place)
-unsolved-holds g k x t lent =
+pub unsolved-holds : (t : Tables) (number place : ℕ) → T (isUnsolved t number place) → RowHolds (unsolved t number place)
+unsolved-holds t k x h lent =
+    let p = by-test (tests-and (tests-bytes (t .priorities)) (tests-itself (isSaid (tableVerdict t) (refused k x)))) h in
+    let row8 = row 8 (Fault8 (lentSizes (vertices t) (length (lent .answer .winners)) (length (lent .answer .moves)) (length (lent .work)))) in
+    let gives = subst (Gives (tableRows t)) (same-said (tableVerdict t) (refused k x) (p .1)) (table-gives t) in
+    let ok : Solving t lent (record { said = refused k x; left = lent }) = record { first = first-left (tableRows t) (row8 ∷ []) k x gives; same = refl } in
     record {
-      allowed = record { first = f; winners-same = refl; moves-same = refl; work-same = refl };
-      no-other = λ o p. other (o .said) (o .winners) (o .moves) (o .work) p;
+      allowed = ok;
+      no-other = λ o q.
+          let e = solves-unique t lent (p .0) lent (o .left) (refused k x) (o .said) ok q in
+          let same = e .refused-same k x refl in
+          sym (λ i. record { said = e .said i; left = same i });
     }
-  where
-    f : First (rows g lent) k x
-    f = first-left (rowsOf g) (row8 g lent ∷ []) k x (subst (Gives (rowsOf g)) (same-said (tested g) (refused k x) t) (tested-gives g))
-
-    other :
-        (said : Said) (winners′ moves′ work′ : List ℕ) → Solving g lent (outcome said winners′ moves′ work′) →
-        outcome said winners′ moves′ work′ ≡ outcome (refused k x) (lent .winners) (lent .moves) (lent .work)
-    other (success values) winners′ moves′ work′ p = absurd (first-not-none (rows g lent) k x f (p .none))
-    other (refused l y) winners′ moves′ work′ p =
-        λ i. outcome (first-unique (rows g lent) l k y x (p .first) f i) (p .winners-same i) (p .moves-same i) (p .work-same i)

@@ -1,3 +1,1 @@
-pub mod Games
-pub mod Table
-pub mod ShutOut
+pub mod promise

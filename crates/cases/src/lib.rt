@@ -1,1 +1,1 @@
-// P1 to P10 of the paper in one table under one statement, and the programs that the promises shut out. No code.
+// P1 to P10 of docs/RULES.md in one table under one statement, and the programs that the promises shut out. No code.

@@ -1,4 +1,4 @@
--- A step to a marked vertex: by the recorded move if there is one, else along the stretch.
+-- A step to a reached vertex: by the recorded move if there is one, else along the stretch.
 use Prim.Native.Nat.{ℕ, _+_, _<_}
 use mathlib.Core.Path.{_≡_, refl, sym, subst, _∙_}
 use mathlib.Core.Logic.{_≢_}
@@ -6,12 +6,12 @@ use mathlib.Core.List.{List}
 use native.Mathlib.Omega.{arith}
 use lib.ListN.{length, getD}
 use lib.Dec.{eqb}
-use Rattle.winning.specs.Answer.{noMove}
-use Rattle.refusal.specs.Found.{Scanned}
-use Rattle.reach.specs.Work.{section}
+use Rattle.winning.specs.promise.Answer.{noMove}
+use Rattle.refusal.specs.parts.Found.{Scanned}
+use Rattle.reach.specs.parts.Work.{section}
 use Rattle.reach.proofs.Sections.{section-read}
-use Rattle.checker.specs.Tests.{Says, Comes}
-use Rattle.checker.specs.Rounds.{Backable}
+use Rattle.checker.specs.parts.Tests.{Says, Comes}
+use Rattle.checker.specs.parts.Rounds.{Backable}
 use Rattle.checker.proofs.Says.{says-eqb}
 
 module _ {n : ℕ} {stretch : List ℕ} {m : ℕ} {work : List ℕ} (b : Backable n stretch m work) where
@@ -25,7 +25,7 @@ module _ {n : ℕ} {stretch : List ℕ} {m : ℕ} {work : List ℕ} (b : Backabl
   pub move-within : (w : ℕ) → m ≢ noMove → w ≡ m → n + w < length work
   move-within w h e = omega (arith, move-inside h, b .long)
 
-  -- the recorded move leads to a marked vertex
+  -- the recorded move leads to a reached vertex
   pub by-move : (w : ℕ) → m ≢ noMove → w ≡ m → Says (Comes stretch m (section 1 n work)) (eqb (getD work (n + w) 0) 1)
   by-move w h e =
       let k : getD work (n + w) 0 ≡ getD (section 1 n work) m 0 = cell m (n + w) (move-inside h) (omega arith) in

@@ -3,23 +3,26 @@ use Prim.Native.Nat.{ℕ, _*_}
 use mathlib.Core.Path.{_≡_, sym, ap, subst, _∙_}
 use mathlib.Core.List.{List}
 use lib.ListN.{length}
-use Rattle.reach.specs.Work.{section}
-use Rattle.reach.specs.Build.{Built}
+use Rattle.game.specs.promise.Tables.{Tables, vertices}
+use Rattle.game.specs.promise.Answer.{Answer}
+use Rattle.reach.specs.parts.Work.{section}
+use Rattle.reach.specs.parts.Build.{Built}
 use Rattle.reach.proofs.Queues.{filled-queued}
-use Rattle.checker.specs.Rounds.{Levelled, LostAsked, Rounding}
+use Rattle.checker.specs.parts.Rounds.{PrioritiesSet, Rounding}
+use Rattle.checker.specs.parts.Judging.{LostAsked}
 
-module _ {owners priorities starts targets winners moves work : List ℕ} (a : LostAsked owners priorities starts targets winners moves work) where
+module _ {tables : Tables} {answer : Answer} {work : List ℕ} (a : LostAsked tables answer work) where
   abbrev n : ℕ
-  n = length owners
+  n = vertices tables
 
-  level : length priorities ≡ n
+  level : length (tables .priorities) ≡ n
   level = a .passed .answered .well-formed .level
 
-  pub levels-long : length work ≡ 4 * length priorities
+  pub levels-long : length work ≡ 4 * length (tables .priorities)
   levels-long = a .work-long ∙ ap (λ (k : ℕ). 4 * k) (sym level)
 
   -- the predecessor lists are built and the levels set
-  pub rounding : {heads nexts sources heads′ nexts′ sources′ work′ : List ℕ} → Built n starts targets heads nexts sources heads′ nexts′ sources′ → Levelled priorities work work′ → Rounding 0 owners priorities starts targets winners moves heads′ nexts′ sources′ work′
+  pub rounding : {heads nexts sources heads′ nexts′ sources′ work′ : List ℕ} → Built n (tables .starts) (tables .targets) heads nexts sources heads′ nexts′ sources′ → PrioritiesSet (tables .priorities) work work′ → Rounding 0 tables answer heads′ nexts′ sources′ work′
   rounding {work′ = after} b l =
       record {
         vertex = a .passed .answered .well-formed .sound .some;
@@ -29,13 +32,13 @@ module _ {owners priorities starts targets winners moves work : List ℕ} (a : L
         ready =
             record {
               long = l .long ∙ a .work-long;
-              levels = subst (λ (k : ℕ). section 0 k after ≡ priorities) level (l .levels);
-              queued = rw (marks, queue) (filled-queued (a .work-long) (a .zero));
+              levels = subst (λ (k : ℕ). section 0 k after ≡ (tables .priorities)) level (l .levels);
+              queued = rw (reached, queue) (filled-queued (a .work-long) (a .zero));
             };
       }
     where
-      marks : section 1 n after ≡ section 1 n work
-      marks = subst (λ (k : ℕ). section 1 k after ≡ section 1 k work) level (l .marks)
+      reached : section 1 n after ≡ section 1 n work
+      reached = subst (λ (k : ℕ). section 1 k after ≡ section 1 k work) level (l .reached)
 
       queue : section 2 n after ≡ section 2 n work
       queue = subst (λ (k : ℕ). section 2 k after ≡ section 2 k work) level (l .queue)

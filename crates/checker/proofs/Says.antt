@@ -4,7 +4,7 @@ use mathlib.Core.Path.{_≡_, sym, subst}
 use mathlib.Core.Bool.{Bool, true, false, not}
 use lib.Dec.{eqb}
 use borrow.Author.Tests.{eqb-true, eqb-false, not-true, not-false}
-use Rattle.checker.specs.Tests.{Says}
+use Rattle.checker.specs.parts.Tests.{Says}
 
 abbrev Bit : Bool → Type 0
 Bit true = Unit {0}

@@ -5,14 +5,14 @@ use mathlib.Core.List.{List}
 use mathlib.Core.Bool.{Bool}
 use native.Mathlib.Omega.{arith}
 use lib.ListN.{length, getD}
-use Rattle.game.specs.Game.{Game, Listed}
-use Rattle.winning.specs.Answer.{Fault12, Fault13, own, other}
-use Rattle.game.specs.Tables.{nextOf, gameOf}
-use Rattle.game.specs.Answer.{markRoom, markOf, moveOf}
-use Rattle.checker.specs.Checking.{Answered}
-use Rattle.checker.specs.Tests.{Says, WrongMove, Escape}
+use Rattle.game.specs.promise.Game.{Game, Listed}
+use Rattle.winning.specs.promise.Faults.{Fault12, Fault13, own, other}
+use Rattle.game.specs.promise.Tables.{nextOf, gameOf, Tables, vertices}
+use Rattle.game.specs.promise.Answer.{Answer, markRoom, markOf, moveOf}
+use Rattle.checker.specs.parts.Judging.{Answered}
+use Rattle.checker.specs.parts.Tests.{Says, WrongMove, Escape}
 use Rattle.checker.proofs.Says.{says-iff}
-use Rattle.checker.specs.Tests as tests
+use Rattle.checker.specs.parts.Tests as tests
 
 module _ (g : Game) (mark move : ℕ → ℕ) (inside : (v w : ℕ) → v < g .n → Listed w (g .next v) → w < g .n) (v : ℕ) (l : v < g .n) where
   -- 12 at v is a wrong move by its stretch
@@ -39,25 +39,25 @@ module _ (g : Game) (mark move : ℕ → ℕ) (inside : (v w : ℕ) → v < g .n
         differs = λ e. f .differs (sym (ap mark (f .edge .listed .is)) ∙ e);
       }
 
-module _ {owners priorities starts targets winners moves : List ℕ} (a : Answered owners priorities starts targets winners moves) {v : ℕ} (l : v < length owners) where
+module _ {tables : Tables} {answer : Answer} (a : Answered tables answer) {v : ℕ} (l : v < vertices tables) where
   -- the successors of v are vertices, and have marks
-  pub stretch-inside : {r : List ℕ} → r ≡ nextOf starts targets v → (i : ℕ) → i < length r → getD r i 0 < length owners
+  pub stretch-inside : {r : List ℕ} → r ≡ nextOf (tables .starts) (tables .targets) v → (i : ℕ) → i < length r → getD r i 0 < vertices tables
   stretch-inside {r} e i h =
       a .well-formed .sound .inside v (getD r i 0) l (subst (Listed (getD r i 0)) e (record { at = i; within = h; is = refl }))
 
-  pub stretch-marks : {r : List ℕ} → r ≡ nextOf starts targets v → (i : ℕ) → i < length r → getD r i 0 < markRoom winners
+  pub stretch-marks : {r : List ℕ} → r ≡ nextOf (tables .starts) (tables .targets) v → (i : ℕ) → i < length r → getD r i 0 < markRoom (answer .winners)
   stretch-marks e i h = omega (arith, stretch-inside e i h, a .winners-long)
 
   abbrev g : Game
-  g = gameOf owners priorities starts targets
+  g = gameOf tables
 
   -- what the tests by the stretch say of the rows
-  pub says12 : {r : List ℕ} {p m : ℕ} {b : Bool} → r ≡ nextOf starts targets v → p ≡ markOf winners v → m ≡ moveOf moves v → Says (WrongMove (markOf winners) r (getD owners v 0) p m) b → Says (Fault12 g (markOf winners) (moveOf moves) v) b
+  pub says12 : {r : List ℕ} {p m : ℕ} {b : Bool} → r ≡ nextOf (tables .starts) (tables .targets) v → p ≡ markOf (answer .winners) v → m ≡ moveOf (answer .moves) v → Says (WrongMove (markOf (answer .winners)) r (getD (tables .owners) v 0) p m) b → Says (Fault12 g (markOf (answer .winners)) (moveOf (answer .moves)) v) b
   says12 er ep em s =
       let inside = a .well-formed .sound .inside in
-      says-iff (fault12 g (markOf winners) (moveOf moves) inside v l) (fault12-only g (markOf winners) (moveOf moves) inside v l) (rw (er, ep, em) at s)
+      says-iff (fault12 g (markOf (answer .winners)) (moveOf (answer .moves)) inside v l) (fault12-only g (markOf (answer .winners)) (moveOf (answer .moves)) inside v l) (rw (er, ep, em) at s)
 
-  pub says13 : {r : List ℕ} {p : ℕ} {b : Bool} → r ≡ nextOf starts targets v → p ≡ markOf winners v → Says (Escape (markOf winners) r (getD owners v 0) p) b → Says (Fault13 g (markOf winners) (moveOf moves) v) b
+  pub says13 : {r : List ℕ} {p : ℕ} {b : Bool} → r ≡ nextOf (tables .starts) (tables .targets) v → p ≡ markOf (answer .winners) v → Says (Escape (markOf (answer .winners)) r (getD (tables .owners) v 0) p) b → Says (Fault13 g (markOf (answer .winners)) (moveOf (answer .moves)) v) b
   says13 er ep s =
       let inside = a .well-formed .sound .inside in
-      says-iff (fault13 g (markOf winners) (moveOf moves) inside v l) (fault13-only g (markOf winners) (moveOf moves) inside v l) (rw (er, ep) at s)
+      says-iff (fault13 g (markOf (answer .winners)) (moveOf (answer .moves)) inside v l) (fault13-only g (markOf (answer .winners)) (moveOf (answer .moves)) inside v l) (rw (er, ep) at s)

@@ -8,37 +8,38 @@ use native.Mathlib.Omega.{arith}
 use native.Mathlib.Decide.{ℕ-discrete}
 use native.Mathlib.Nat.{not-suc-le-zero}
 use lib.ListN.{length, getD}
-use Rattle.player.specs.Player.{parityOf}
-use Rattle.game.specs.Game.{Game, Listed}
-use Rattle.game.specs.Tables.{nextOf, gameOf}
-use Rattle.game.specs.Answer.{markOf, moveOf}
-use Rattle.winning.specs.Answer.{noMove, Fault14}
+use Rattle.player.specs.promise.Player.{parityOf}
+use Rattle.game.specs.promise.Game.{Game, Listed}
+use Rattle.game.specs.promise.Tables.{nextOf, gameOf, Tables, vertices}
+use Rattle.game.specs.promise.Answer.{Answer, markOf, moveOf}
+use Rattle.winning.specs.promise.Answer.{noMove}
+use Rattle.winning.specs.promise.Faults.{Fault14}
 use Rattle.winning.proofs.Backed.{Backed, backed}
-use Rattle.reach.specs.Work.{section}
-use Rattle.reach.specs.Closure.{ClosedFrom, Queued}
-use Rattle.reach.specs.Queue.{SeedableIn, PushedIn, ClosableIn, ClosedIn, ClearableIn, ClearedIn}
+use Rattle.reach.specs.parts.Work.{section}
+use Rattle.reach.specs.parts.Closure.{ClosedFrom, Queued}
+use Rattle.reach.specs.parts.Queue.{SeedableIn, PushedIn, ClosableIn, ClosedIn, ClearableIn, ClearedIn}
 use Rattle.reach.proofs.Sections.{section-long}
 use Rattle.reach.proofs.Queues.{pushed-queued, cleared-queued}
-use Rattle.checker.specs.Tests.{Says, Comes}
-use Rattle.checker.specs.Rounds.{Rounding, Backable, Ready}
+use Rattle.checker.specs.parts.Tests.{Says, Comes}
+use Rattle.checker.specs.parts.Rounds.{Rounding, Backable, Ready}
 use Rattle.checker.proofs.Says.{says-iff}
 use Rattle.checker.proofs.Stretches.{stretch-inside}
 use Rattle.checker.proofs.Rounds.{Single, fault14, fault14-only}
 
--- where nothing is queued nothing is marked
+-- where nothing is queued nothing is reached
 zero-marks : {n : ℕ} {reached queue : List ℕ} → Queued n reached queue 0 → (v : ℕ) → v < n → getD reached v 0 ≡ 0
 zero-marks {n} {reached} q v l =
     elim (ℕ-discrete (getD reached v 0) 1) [ yes e ↦ absurd (not-suc-le-zero (q .place v l e .1)) | no ne ↦ omega (arith, q .flag v l) ]
 
-module _ {x : ℕ} {owners priorities starts targets winners moves heads nexts sources work : List ℕ} (r : Rounding x owners priorities starts targets winners moves heads nexts sources work) where
+module _ {x : ℕ} {tables : Tables} {answer : Answer} {heads nexts sources work : List ℕ} (r : Rounding x tables answer heads nexts sources work) where
   abbrev n : ℕ
-  n = length owners
+  n = vertices tables
 
   abbrev g : Game
-  g = gameOf owners priorities starts targets
+  g = gameOf tables
 
-  b : Backed g (markOf winners) (moveOf moves)
-  b = backed g (markOf winners) (moveOf moves) (r .passed .no11) (r .passed .no12) (r .passed .no13)
+  b : Backed g (markOf (answer .winners)) (moveOf (answer .moves))
+  b = backed g (markOf (answer .winners)) (moveOf (answer .moves)) (r .passed .no11) (r .passed .no12) (r .passed .no13)
 
   pub seedable : SeedableIn n x work 0
   seedable =
@@ -48,7 +49,7 @@ module _ {x : ℕ} {owners priorities starts targets winners moves heads nexts s
             record {
               queued = r .ready .queued;
               vertex = r .vertex;
-              unmarked = zero-marks (r .ready .queued) x (r .vertex);
+              unreached = zero-marks (r .ready .queued) x (r .vertex);
               small = r .passed .answered .well-formed .sound .few;
             };
       }
@@ -57,7 +58,7 @@ module _ {x : ℕ} {owners priorities starts targets winners moves heads nexts s
     long1 : length work1 ≡ 4 * n
     long1 = p .beside .long ∙ r .ready .long
 
-    levels1 : section 0 n work1 ≡ priorities
+    levels1 : section 0 n work1 ≡ (tables .priorities)
     levels1 = p .beside .levels ∙ r .ready .levels
 
     single : Single n (section 1 n work1) x
@@ -70,7 +71,7 @@ module _ {x : ℕ} {owners priorities starts targets winners moves heads nexts s
         apart : _≡_ {A = ℕ} 1 0 → ⊥
         apart e = omega arith
 
-    pub closable : ClosableIn n targets heads nexts sources moves work1 one
+    pub closable : ClosableIn n (tables .targets) heads nexts sources (answer .moves) work1 one
     closable =
         record {
           long = long1;
@@ -84,36 +85,36 @@ module _ {x : ℕ} {owners priorities starts targets winners moves heads nexts s
               };
         }
 
-    module _ {work2 : List ℕ} {bound tail : ℕ} (is-bound : bound ≡ getD priorities x 0) (c : ClosedIn n targets sources moves bound work1 work2 tail) where
+    module _ {work2 : List ℕ} {bound tail : ℕ} (is-bound : bound ≡ getD (tables .priorities) x 0) (c : ClosedIn n (tables .targets) sources (answer .moves) bound work1 work2 tail) where
       long2 : length work2 ≡ 4 * n
       long2 = c .beside .long ∙ long1
 
-      closed2 : ClosedFrom n targets sources priorities moves (getD priorities x 0) (section 1 n work1) (section 1 n work2)
+      closed2 : ClosedFrom n (tables .targets) sources (tables .priorities) (answer .moves) (getD (tables .priorities) x 0) (section 1 n work1) (section 1 n work2)
       closed2 = rw (is-bound, levels1) at (c .closed .closed)
 
-      pub backable : {stretch : List ℕ} {m : ℕ} → stretch ≡ nextOf starts targets x → m ≡ moveOf moves x → Backable n stretch m work2
+      pub backable : {stretch : List ℕ} {m : ℕ} → stretch ≡ nextOf (tables .starts) (tables .targets) x → m ≡ moveOf (answer .moves) x → Backable n stretch m work2
       backable {stretch} {m} e em =
           record {
             long = long2;
             inside = stretch-inside (r .passed .answered) (r .vertex) e;
-            listed = λ ne. subst (Listed m) (sym e) (subst (λ (k : ℕ). Listed k (nextOf starts targets x)) (sym em) (own ne));
+            listed = λ ne. subst (Listed m) (sym e) (subst (λ (k : ℕ). Listed k (nextOf (tables .starts) (tables .targets) x)) (sym em) (own ne));
           }
         where
-          own : m ≢ noMove → Listed (moveOf moves x) (nextOf starts targets x)
-          own ne = elim (ℕ-discrete (getD owners x 0) (markOf winners x)) [ yes o ↦ b .owned x (r .vertex) o .0 .listed | no o ↦ absurd (ne (em ∙ b .elsewhere x (r .vertex) o)) ]
+          own : m ≢ noMove → Listed (moveOf (answer .moves) x) (nextOf (tables .starts) (tables .targets) x)
+          own ne = elim (ℕ-discrete (getD (tables .owners) x 0) (markOf (answer .winners) x)) [ yes o ↦ b .owned x (r .vertex) o .0 .listed | no o ↦ absurd (ne (em ∙ b .elsewhere x (r .vertex) o)) ]
 
-      pub says14 : {stretch : List ℕ} {m : ℕ} {back : Bool} → stretch ≡ nextOf starts targets x → m ≡ moveOf moves x → parityOf (getD priorities x 0) ≢ markOf winners x → Says (Comes stretch m (section 1 n work2)) back → Says (Fault14 g (markOf winners) (moveOf moves) x) back
+      pub says14 : {stretch : List ℕ} {m : ℕ} {back : Bool} → stretch ≡ nextOf (tables .starts) (tables .targets) x → m ≡ moveOf (answer .moves) x → parityOf (getD (tables .priorities) x 0) ≢ markOf (answer .winners) x → Says (Comes stretch m (section 1 n work2)) back → Says (Fault14 g (markOf (answer .winners)) (moveOf (answer .moves)) x) back
       says14 e em lost s =
           let sound = r .passed .answered .well-formed .sound in
           says-iff
-          (fault14 owners priorities starts targets winners moves sources sound (r .edges) b x lost (r .vertex) _ _ single closed2)
-          (fault14-only owners priorities starts targets winners moves sources sound (r .edges) b x lost (r .vertex) _ _ single closed2)
+          (fault14 tables answer sources sound (r .edges) b x lost (r .vertex) _ _ single closed2)
+          (fault14-only tables answer sources sound (r .edges) b x lost (r .vertex) _ _ single closed2)
           (rw (e, em) at s)
 
       pub clearable : ClearableIn n work2 tail
       clearable = record { long = long2; small = r .passed .answered .well-formed .sound .few; queued = c .closed .queued }
 
-      pub ready-again : {work3 : List ℕ} → ClearedIn n work2 work3 → Ready n priorities work3
+      pub ready-again : {work3 : List ℕ} → ClearedIn n work2 work3 → Ready n (tables .priorities) work3
       ready-again d =
           record {
             long = d .beside .long ∙ long2;

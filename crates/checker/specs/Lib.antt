@@ -1,3 +1,2 @@
-pub mod Checking
-pub mod Tests
-pub mod Rounds
+pub mod promise
+pub mod parts

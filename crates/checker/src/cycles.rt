@@ -1,4 +1,7 @@
-// The test 14: a cycle by the recorded moves with a highest priority whose parity is not its vertices' mark.
+// The test 14: by the recorded moves a play may run round a cycle that its winner loses.
+use game::EDGES;
+use game::NONE;
+use game::VERTICES;
 use game::answer::mark;
 use game::answer::recorded;
 use game::vertex::successors;
@@ -13,19 +16,20 @@ use refusal::Found;
 ghost use mathlib.Core.Path.{_≡_};
 ghost use Prim.Native.Nat.{_*_};
 ghost use lib.ListN.{length};
-ghost use Rattle.refusal.specs.Found.{Finds};
-ghost use Rattle.game.specs.Answer.{markOf, moveOf};
-ghost use Rattle.game.specs.Tables.{gameOf};
-ghost use Rattle.game.specs.Buffers.{Zeroed};
-ghost use Rattle.winning.specs.Answer.{Fault14};
-ghost use Rattle.reach.specs.Work.{section};
-ghost use Rattle.checker.specs.Tests.{Says, Comes};
-ghost use Rattle.checker.specs.Rounds.{Levelled, Backable, Rounding, Rounds, LostAsked};
+ghost use Rattle.refusal.specs.parts.Found.{Finds};
+ghost use Rattle.game.specs.promise.Answer.{markOf, moveOf};
+ghost use Rattle.game.specs.promise.Tables.{gameOf};
+ghost use Rattle.game.specs.promise.Lent.{asked, lent, claim, claimed, Zeroed};
+ghost use Rattle.winning.specs.promise.Faults.{Fault14};
+ghost use Rattle.reach.specs.parts.Work.{section};
+ghost use Rattle.checker.specs.parts.Judging.{LostAsked};
+ghost use Rattle.checker.specs.parts.Tests.{Says, Comes};
+ghost use Rattle.checker.specs.parts.Rounds.{PrioritiesSet, Backable, Rounding, Rounds};
 
 // Puts the priorities into section 0 of the work space, as the closure's levels.
 fn set_levels(priorities: &[u8], work: &mut [u16])
     requires { ⌜ length (now work) ≡ 4 * length (now priorities) ⌝ }
-    ensures { λ _. ⌜ Levelled (now (priorities .entry)) (now (work .entry)) (now (work .exit)) ⌝ }
+    ensures { λ _. ⌜ PrioritiesSet (now (priorities .entry)) (now (work .entry)) (now (work .exit)) ⌝ }
 {
     let n = priorities.len();
     let mut v = 0;
@@ -35,12 +39,12 @@ fn set_levels(priorities: &[u8], work: &mut [u16])
     }
 }
 
-// Whether a step leads from a vertex with this stretch and move to a marked vertex.
+// Whether a step leads from a vertex with this stretch and move to a reached vertex.
 fn comes_back(n: usize, stretch: &[u16], m: u16, work: &[u16]) -> bool
     requires { ⌜ Backable n (now stretch) m (now work) ⌝ }
     ensures { λ r. ⌜ Says (Comes (now (stretch .entry)) m (section 1 n (now (work .entry)))) r ⌝ }
 {
-    if m != 65535 {
+    if m != NONE {
         return work[n + wide(m)] == 1;
     }
     let mut i = 0;
@@ -67,8 +71,8 @@ fn is_lost(
     sources: &[u16],
     work: &mut [u16],
 ) -> bool
-    requires { ⌜ Rounding x (now owners) (now priorities) (now starts) (now targets) (now winners) (now moves) (now heads) (now nexts) (now sources) (now work) ⌝ }
-    ensures { λ r. ⌜ Rounds x (now (owners .entry)) (now (priorities .entry)) (now (starts .entry)) (now (targets .entry)) (now (winners .entry)) (now (moves .entry)) (now (work .exit)) r ⌝ }
+    requires { ⌜ Rounding x (asked owners priorities starts targets) (claim winners moves) (now heads) (now nexts) (now sources) (now work) ⌝ }
+    ensures { λ r. ⌜ Rounds x (lent owners priorities starts targets) (claimed winners moves) (now (work .exit)) r ⌝ }
 {
     if Player::of_priority(priorities[x]).bit == mark(winners, x) {
         return false;
@@ -95,8 +99,8 @@ fn lowest_lost(
     sources: &[u16],
     work: &mut [u16],
 ) -> Found
-    requires { ⌜ Rounding 0 (now owners) (now priorities) (now starts) (now targets) (now winners) (now moves) (now heads) (now nexts) (now sources) (now work) ⌝ }
-    ensures { λ r. ⌜ Finds (Fault14 (gameOf (now (owners .entry)) (now (priorities .entry)) (now (starts .entry)) (now (targets .entry))) (markOf (now (winners .entry))) (moveOf (now (moves .entry)))) r ⌝ }
+    requires { ⌜ Rounding 0 (asked owners priorities starts targets) (claim winners moves) (now heads) (now nexts) (now sources) (now work) ⌝ }
+    ensures { λ r. ⌜ Finds (Fault14 (gameOf (lent owners priorities starts targets)) (markOf (now (winners .entry))) (moveOf (now (moves .entry)))) r ⌝ }
 {
     let n = owners.len();
     let mut x = 0;
@@ -131,13 +135,13 @@ pub fn lost_cycle(
     moves: &[u16],
     work: &mut [u16],
 ) -> Found
-    requires { ⌜ LostAsked (now owners) (now priorities) (now starts) (now targets) (now winners) (now moves) (now work) ⌝ }
-    ensures finds { λ r. ⌜ Finds (Fault14 (gameOf (now (owners .entry)) (now (priorities .entry)) (now (starts .entry)) (now (targets .entry))) (markOf (now (winners .entry))) (moveOf (now (moves .entry)))) r ⌝ }
+    requires { ⌜ LostAsked (asked owners priorities starts targets) (claim winners moves) (now work) ⌝ }
+    ensures finds { λ r. ⌜ Finds (Fault14 (gameOf (lent owners priorities starts targets)) (markOf (now (winners .entry))) (moveOf (now (moves .entry)))) r ⌝ }
     ensures zeroed { λ _. ⌜ Zeroed (now (work .entry)) (now (work .exit)) ⌝ }
 {
-    let mut heads = [0u16; 2048];
-    let mut nexts = [0u16; 16384];
-    let mut sources = [0u16; 16384];
+    let mut heads = [0u16; VERTICES];
+    let mut nexts = [0u16; EDGES];
+    let mut sources = [0u16; EDGES];
     let n = owners.len();
     predecessors(n, starts, targets, &mut heads, &mut nexts, &mut sources);
     set_levels(priorities, work);

@@ -3,18 +3,21 @@ use answers::open_escape;
 use answers::strange_mark;
 use answers::wrong_move;
 use cycles::lost_cycle;
-use game::buffers::lengths;
-use game::tables::Tables;
-use game::tables::test_tables;
+use game::buffers::test_lent;
 use reach::cells::fill;
-use refusal::Found;
+use refusal::AnswerFault;
 use refusal::Kind;
 use refusal::Refusal;
+use refusal::Tested;
+use refusal::or;
 ghost use mathlib.Core.Path.{_≡_};
-ghost use Rattle.checker.specs.Checking.{Judgeable, Judged, Checks, verdictSaid};
+ghost use Rattle.refusal.specs.parts.Found.{testedSaid};
+ghost use Rattle.game.specs.promise.Lent.{asked, lent, claim, claimed};
+ghost use Rattle.checker.specs.promise.Checking.{Checks, verdictSaid};
+ghost use Rattle.checker.specs.parts.Judging.{Judgeable, Judged};
 
-pub mod answers;
-pub mod cycles;
+mod answers;
+mod cycles;
 
 // Accepted, or the first of 1 to 8 and 11 to 14 that applies.
 pub enum Verdict {
@@ -22,10 +25,14 @@ pub enum Verdict {
     Refused(Refusal),
 }
 
-fn refused(kind: Kind, place: usize) -> Verdict
-    ensures { λ r. ⌜ r ≡ Verdict.Refused (record { kind = kind; place = place }) ⌝ }
+// The verdict for what the tests say.
+fn given(said: Tested) -> Verdict
+    ensures { λ r. ⌜ verdictSaid r ≡ testedSaid said ⌝ }
 {
-    Verdict::Refused(Refusal { kind, place })
+    match said {
+        Tested::Passed => Verdict::Accepted,
+        Tested::Refused(r) => Verdict::Refused(r),
+    }
 }
 
 // 11 to 14, each over all vertices before the next, on an answer to a game that has passed 1 to 8.
@@ -38,27 +45,21 @@ pub fn judge(
     moves: &[u16],
     work: &mut [u16],
 ) -> Verdict
-    requires { ⌜ Judgeable (now owners) (now priorities) (now starts) (now targets) (now winners) (now moves) (now work) ⌝ }
-    ensures { λ r. ⌜ Judged (now (owners .entry)) (now (priorities .entry)) (now (starts .entry)) (now (targets .entry)) (now (winners .entry)) (now (moves .entry)) (now (work .entry)) (now (work .exit)) (verdictSaid r) ⌝ }
+    requires { ⌜ Judgeable (asked owners priorities starts targets) (claim winners moves) (now work) ⌝ }
+    ensures { λ r. ⌜ Judged (lent owners priorities starts targets) (claimed winners moves) (now (work .entry)) (now (work .exit)) (verdictSaid r) ⌝ }
 {
     fill(work, 0);
     let strange = strange_mark(owners, priorities, starts, targets, winners, moves);
-    if let Found::At(v) = strange {
-        return refused(Kind::Mark, v);
-    }
+    let one = or(Tested::Passed, strange, Kind::Claim(AnswerFault::Mark));
     let wrong = wrong_move(owners, priorities, starts, targets, winners, moves);
-    if let Found::At(v) = wrong {
-        return refused(Kind::Move, v);
-    }
+    let two = or(one, wrong, Kind::Claim(AnswerFault::Move));
     let escape = open_escape(owners, priorities, starts, targets, winners, moves);
-    if let Found::At(v) = escape {
-        return refused(Kind::Escape, v);
+    let three = or(two, escape, Kind::Claim(AnswerFault::Escape));
+    if let Tested::Refused(r) = three {
+        return Verdict::Refused(r);
     }
     let lost = lost_cycle(owners, priorities, starts, targets, winners, moves, work);
-    if let Found::At(v) = lost {
-        return refused(Kind::Cycle, v);
-    }
-    Verdict::Accepted
+    given(or(three, lost, Kind::Claim(AnswerFault::Cycle)))
 }
 
 // Whether the answer is right for the game: the first of 1 to 8 and 11 to 14 that applies, or acceptance.
@@ -71,15 +72,19 @@ pub fn check(
     moves: &[u16],
     work: &mut [u16],
 ) -> Verdict
-    ensures { λ r. ⌜ Checks (now (owners .entry)) (now (priorities .entry)) (now (starts .entry)) (now (targets .entry)) (now (winners .entry)) (now (moves .entry)) (now (work .entry)) (now (work .exit)) (verdictSaid r) ⌝ }
+    ensures { λ r. ⌜ Checks (lent owners priorities starts targets) (claimed winners moves) (now (work .entry)) (now (work .exit)) (verdictSaid r) ⌝ }
 {
-    let tested = test_tables(owners, priorities, starts, targets);
-    if let Tables::Refused(r) = tested {
+    let tested = test_lent(
+        owners,
+        priorities,
+        starts,
+        targets,
+        winners.len(),
+        moves.len(),
+        work.len(),
+    );
+    if let Tested::Refused(r) = tested {
         return Verdict::Refused(r);
-    }
-    let lent = lengths(owners.len(), winners.len(), moves.len(), work.len());
-    if let Found::At(p) = lent {
-        return refused(Kind::Buffer, p);
     }
     judge(owners, priorities, starts, targets, winners, moves, work)
 }

@@ -2,6 +2,6 @@ pub mod Stores
 pub mod Starts
 pub mod Sizes
 pub mod Order
-pub mod Said
 pub mod WellFormed
+pub mod Lent
 pub mod Zeros

@@ -5,12 +5,13 @@ use mathlib.Core.List.{List}
 use native.Mathlib.Omega.{arith}
 use native.Mathlib.Decide.{ℕ-discrete, decLt}
 use lib.ListN.{length, getD}
-use Rattle.refusal.specs.Row.{Lowest, NoPlace}
+use Rattle.refusal.specs.promise.Row.{Lowest, NoPlace}
 use Rattle.refusal.specs.declared.Found.{Found}
 use Rattle.refusal.specs.declared.Found.the-variants.{At, Nowhere}
-use Rattle.refusal.specs.Found.{Finds, Scanned, scan-more, found-at, found-nowhere}
-use Rattle.game.specs.Tables.{nextOf, Placed}
-use Rattle.game.specs.Faults.{Descent, Fault7}
+use Rattle.refusal.specs.parts.Found.{Finds, Scanned}
+use Rattle.refusal.proofs.Scans.{scan-more, found-at, found-nowhere}
+use Rattle.game.specs.promise.Tables.{nextOf, Placed}
+use Rattle.game.specs.promise.Faults.{Descent, Fault7}
 use Rattle.game.proofs.Starts.{onward-from, stretch-of, stretch-length, stretch-place}
 
 -- somewhere in the stretch of u a target is not above the one before it

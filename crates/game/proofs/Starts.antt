@@ -8,9 +8,10 @@ use native.Mathlib.Decide.{ℕ-discrete, decLe}
 use native.Mathlib.Nat.{le-refl, le-trans, not-suc-le-zero, add-zero, add-suc, add-sub-of-le}
 use lib.ListN.{length, getD, drop, length-take, length-drop}
 use lib.Seq.{getD-take, getD-drop}
-use Rattle.refusal.specs.Row.{Lowest, NoPlace}
-use Rattle.game.specs.Tables.{nextOf, Placed, Stretch}
-use Rattle.game.specs.Faults.{Fault4, first, below, last}
+use Rattle.refusal.specs.promise.Row.{Lowest, NoPlace}
+use Rattle.game.specs.promise.Tables.{nextOf, Placed}
+use Rattle.game.specs.parts.Stretch.{Stretch}
+use Rattle.game.specs.promise.Faults.{Fault4, first, below, last}
 
 -- the starts below place v do not fall
 pub record Rising (starts : List ℕ) (v : ℕ) : Type 0 where
@@ -74,8 +75,8 @@ placed-of n starts targets long none =
     up : (v : ℕ) → v < n → getD starts v 0 ≤ getD starts (v + 1) 0
     up v l = elim (decLe (getD starts v 0) (getD starts (v + 1) 0)) [ yes h ↦ h | no h ↦ absurd (none (v + 1) (below v (omega arith) (omega arith) (omega arith))) ]
 
-pub none-of : (n : ℕ) (starts targets : List ℕ) → Placed n starts targets → NoPlace (Fault4 starts targets)
-none-of n starts targets p =
+pub none-of-placed : (n : ℕ) (starts targets : List ℕ) → Placed n starts targets → NoPlace (Fault4 starts targets)
+none-of-placed n starts targets p =
     none-found starts targets n (p .first) (sym (p .bounds)) (record { rising = λ i l. p .onward i (up i l) }) (p .last)
   where
     up : (i : ℕ) → i + 1 < length starts → i < n

@@ -4,7 +4,8 @@ use mathlib.Core.Path.{_≡_, refl, sym, subst, _∙_}
 use mathlib.Core.List.{List}
 use lib.ListN.{length, set, length-set}
 use lib.Seq.{getD-set-same, getD-set-other, ext-getD}
-use Rattle.game.specs.Answer.{markRoom, markOf, moveOf, MarkSet, MoveSet}
+use Rattle.game.specs.promise.Answer.{markRoom, markOf, moveOf}
+use Rattle.game.specs.parts.Answers.{MarkSet, MoveSet}
 
 pub mark-set : (l : List ℕ) (v p : ℕ) → v < markRoom l → MarkSet l (set l v p) v p
 unfolding markRoom markOf

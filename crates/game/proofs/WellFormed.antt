@@ -8,12 +8,13 @@ use mathlib.Core.List.{List}
 use native.Mathlib.Omega.{arith}
 use native.Mathlib.Decide.{ℕ-discrete, decLe, decLt}
 use lib.ListN.{length, getD}
-use Rattle.refusal.specs.Row.{None, NoPlace}
-use Rattle.game.specs.Game.{Listed, Ascending}
-use Rattle.game.specs.Tables.{nextOf, Placed, WellFormed}
-use Rattle.game.specs.Faults.{Fault1, Fault2, Fault3, Fault5, Fault6, Fault7, Descent, tableRows}
+use Rattle.refusal.specs.promise.Row.{None, NoPlace}
+use Rattle.refusal.proofs.Rows.{none-of}
+use Rattle.game.specs.promise.Game.{Listed, Ascending}
+use Rattle.game.specs.promise.Tables.{Tables, vertices, nextOf, Placed, WellFormed}
+use Rattle.game.specs.promise.Faults.{Fault1, Fault2, Fault3, Fault5, Fault6, Fault7, Descent, tableRows}
 use Rattle.game.proofs.Sizes.{none-of-fitting, fitting-of-none}
-use Rattle.game.proofs.Starts.{placed-of, none-of, stretch-of, stretch-length, stretch-place, stretch-at}
+use Rattle.game.proofs.Starts.{placed-of, none-of-placed, stretch-of, stretch-length, stretch-place, stretch-at}
 
 -- a list ascends exactly if no number of it is not above the one before
 ascending-of-none : (l : List ℕ) → NoPlace (Descent l) → Ascending l
@@ -55,12 +56,13 @@ module _ (n : ℕ) (starts targets : List ℕ) (p : Placed n starts targets) whe
       let w : getD (nextOf starts targets v) i 0 ≡ getD targets x 0 = stretch-at starts targets v i l ∙ ap (λ (k : ℕ). getD targets k 0) e in
       omega (arith, inside v (getD targets x 0) (h .1) (record { at = i; within = l; is = w }), f .outside)
 
-module _ (owners priorities starts targets : List ℕ) where
+module _ (t : Tables) where
   -- bytes are below 256
-  pub well-formed : ((v : ℕ) → getD priorities v 0 < 256) → None (tableRows owners priorities starts targets) → WellFormed owners priorities starts targets
+  pub well-formed : ((v : ℕ) → getD (t .priorities) v 0 < 256) → None (tableRows t) → WellFormed t
   well-formed bytes none =
-      let fit = fitting-of-none owners priorities starts targets (none .0) in
-      let p = placed-of (length owners) starts targets (fit .bounds) (none .1 .1 .1 .0) in
+      let rows = tableRows t in
+      let fit = fitting-of-none t (none-of 1 rows none) in
+      let p = placed-of (vertices t) (t .starts) (t .targets) (fit .bounds) (none-of 4 rows none) in
       record {
         level = fit .level;
         edges = fit .edges;
@@ -69,43 +71,45 @@ module _ (owners priorities starts targets : List ℕ) where
             record {
               some = fit .some;
               few = fit .few;
-              owned = λ v l. elim (decLt (getD owners v 0) 2) [ yes k ↦ k | no k ↦ absurd (none .1 .0 v (record { vertex = l; strange = k })) ];
-              ranked = λ v l. elim (ℕ-discrete (getD priorities v 0) 255) [ yes e ↦ absurd (none .1 .1 .0 v (record { vertex = l; top = e })) | no ne ↦ omega (arith, bytes v) ];
-              inside = inside-of-none (length owners) starts targets p (none .1 .1 .1 .1 .1 .0);
-              ascending = λ v l. ascending-of-none _ (λ i d. none .1 .1 .1 .1 .1 .1 .0 (getD starts v 0 + i) (record { vertex = v; is-vertex = l; at = i; place = refl; descent = d }));
+              owned = λ v l. elim (decLt (getD (t .owners) v 0) 2) [ yes k ↦ k | no k ↦ absurd (none-of 2 rows none v (record { vertex = l; strange = k })) ];
+              ranked = λ v l. elim (ℕ-discrete (getD (t .priorities) v 0) 255) [ yes e ↦ absurd (none-of 3 rows none v (record { vertex = omega (arith, fit .level); top = e })) | no ne ↦ omega (arith, bytes v) ];
+              inside = inside-of-none (vertices t) (t .starts) (t .targets) p (none-of 6 rows none);
+              ascending = λ v l. ascending-of-none _ (λ i d. none-of 7 rows none (getD (t .starts) v 0 + i) (record { vertex = v; is-vertex = l; at = i; place = refl; descent = d }));
             };
-        moving = λ v l. elim (ℕ-discrete (length (nextOf starts targets v)) 0) [ yes e ↦ absurd (none .1 .1 .1 .1 .0 v (record { vertex = l; stuck = e })) | no ne ↦ omega arith ];
+        moving = λ v l. elim (ℕ-discrete (length (nextOf (t .starts) (t .targets) v)) 0) [ yes e ↦ absurd (none-of 5 rows none v (record { vertex = l; stuck = e })) | no ne ↦ omega arith ];
       }
 
-  pub none-applies : WellFormed owners priorities starts targets → None (tableRows owners priorities starts targets)
-  none-applies w = (sizes, (owner, (priority, (none-of (length owners) starts targets (w .placed), (stuck, (target, (order, tt)))))))
+  pub none-applies : WellFormed t → None (tableRows t)
+  none-applies w = (sizes, (owner, (priority, (none-of-placed (vertices t) (t .starts) (t .targets) (w .placed), (stuck, (target, (order, tt)))))))
     where
-      sizes : NoPlace (Fault1 owners priorities starts targets)
-      sizes = none-of-fitting owners priorities starts targets (record { some = w .sound .some; few = w .sound .few; level = w .level; bounds = w .placed .bounds; edges = w .edges })
+      sizes : NoPlace (Fault1 t)
+      sizes = none-of-fitting t (record { some = w .sound .some; few = w .sound .few; level = w .level; bounds = w .placed .bounds; edges = w .edges })
 
-      owner : NoPlace (Fault2 owners)
+      owner : NoPlace (Fault2 (t .owners))
       owner x f = f .strange (w .sound .owned x (f .vertex))
 
-      priority : NoPlace (Fault3 (length owners) priorities)
-      priority x f = omega (arith, f .top, w .sound .ranked x (f .vertex))
+      priority : NoPlace (Fault3 (t .priorities))
+      priority x f =
+          let l : x < vertices t = omega (arith, f .vertex, w .level) in
+          omega (arith, f .top, w .sound .ranked x l)
 
-      stuck : NoPlace (Fault5 (length owners) starts targets)
+      stuck : NoPlace (Fault5 (vertices t) (t .starts) (t .targets))
       stuck x f = omega (arith, f .stuck, w .moving x (f .vertex))
 
-      target : NoPlace (Fault6 (length owners) targets)
-      target = none-of-inside (length owners) starts targets (w .placed) (w .sound .inside)
+      target : NoPlace (Fault6 (vertices t) (t .targets))
+      target = none-of-inside (vertices t) (t .starts) (t .targets) (w .placed) (w .sound .inside)
 
-      order : NoPlace (Fault7 (length owners) starts targets)
+      order : NoPlace (Fault7 (vertices t) (t .starts) (t .targets))
       order x f = none-of-ascending _ (w .sound .ascending (f .vertex) (f .is-vertex)) (f .at) (f .descent)
 
   -- accepted exactly if well formed
-  pub accepted-iff-well-formed : ((v : ℕ) → getD priorities v 0 < 256) → None (tableRows owners priorities starts targets) ↔ WellFormed owners priorities starts targets
+  pub accepted-iff-well-formed : ((v : ℕ) → getD (t .priorities) v 0 < 256) → None (tableRows t) ↔ WellFormed t
   accepted-iff-well-formed bytes = (well-formed bytes, none-applies)
 
--- every target of a well-formed game is a vertex
-pub targets-inside : (owners priorities starts targets : List ℕ) → WellFormed owners priorities starts targets → (e : ℕ) → e < length targets → getD targets e 0 < length owners
-targets-inside owners priorities starts targets w e l =
-    elim (decLt (getD targets e 0) (length owners)) [
-      | yes k ↦ k
-      | no k ↦ absurd (none-applies owners priorities starts targets w .1 .1 .1 .1 .1 .0 e (record { place = l; outside = omega arith }))
-    ]
+  -- every target of a well-formed game is a vertex
+  pub targets-inside : WellFormed t → (e : ℕ) → e < length (t .targets) → getD (t .targets) e 0 < vertices t
+  targets-inside w e l =
+      elim (decLt (getD (t .targets) e 0) (vertices t)) [
+        | yes k ↦ k
+        | no k ↦ absurd (none-of 6 (tableRows t) (none-applies w) e (record { place = l; outside = omega arith }))
+      ]

@@ -1,5 +1,2 @@
-pub mod Game
-pub mod Tables
-pub mod Faults
-pub mod Answer
-pub mod Buffers
+pub mod promise
+pub mod parts

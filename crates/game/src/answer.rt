@@ -2,7 +2,8 @@
 ghost use mathlib.Core.Path.{_≡_};
 ghost use Prim.Native.Nat.{_<_};
 ghost use lib.ListN.{length};
-ghost use Rattle.game.specs.Answer.{markRoom, markOf, moveOf, MarkSet, MoveSet};
+ghost use Rattle.game.specs.promise.Answer.{markRoom, markOf, moveOf};
+ghost use Rattle.game.specs.parts.Answers.{MarkSet, MoveSet};
 
 pub fn mark(winners: &[u8], v: usize) -> u8
     requires { ⌜ v < markRoom (now winners) ⌝ }

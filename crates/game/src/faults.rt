@@ -1,23 +1,26 @@
 // A test for each of the rows 1 to 7: the lowest place at which it applies, or that it applies nowhere.
+use crate::EDGES;
+use crate::VERTICES;
 use crate::vertex::successors;
 use crate::vertex::wide;
+use player::Player;
 use refusal::Found;
-ghost use mathlib.Core.Path.{_≡_};
 ghost use Prim.Native.Nat.{_<_};
 ghost use lib.ListN.{length};
-ghost use Rattle.refusal.specs.Found.{Finds};
-ghost use Rattle.game.specs.Tables.{Placed};
-ghost use Rattle.game.specs.Faults.{Fault1, Fault2, Fault3, Fault4, Fault5, Fault6, Fault7, Descent};
+ghost use Rattle.refusal.specs.parts.Found.{Finds};
+ghost use Rattle.game.specs.promise.Tables.{Placed};
+ghost use Rattle.game.specs.promise.Faults.{Fault1, Fault2, Fault3, Fault4, Fault5, Fault6, Fault7, Descent};
+ghost use Rattle.game.specs.promise.Lent.{lent};
 
 // 1: the lengths.
 pub fn sizes(owners: &[u8], priorities: &[u8], starts: &[u16], targets: &[u16]) -> Found
-    ensures { λ r. ⌜ Finds (Fault1 (now (owners .entry)) (now (priorities .entry)) (now (starts .entry)) (now (targets .entry))) r ⌝ }
+    ensures { λ r. ⌜ Finds (Fault1 (lent owners priorities starts targets)) r ⌝ }
 {
     let n = owners.len();
     if n == 0 {
         return Found::At(0);
     }
-    if n > 2048 {
+    if n > VERTICES {
         return Found::At(0);
     }
     if priorities.len() != n {
@@ -26,7 +29,7 @@ pub fn sizes(owners: &[u8], priorities: &[u8], starts: &[u16], targets: &[u16]) 
     if starts.len() != n + 1 {
         return Found::At(0);
     }
-    if targets.len() > 16384 {
+    if targets.len() > EDGES {
         return Found::At(0);
     }
     Found::Nowhere
@@ -38,7 +41,7 @@ pub fn owner(owners: &[u8]) -> Found
 {
     let mut v = 0;
     while v < owners.len() {
-        if owners[v] > 1 {
+        if owners[v] > Player::ODD.bit {
             return Found::At(v);
         }
         v += 1;
@@ -47,12 +50,11 @@ pub fn owner(owners: &[u8]) -> Found
 }
 
 // 3: a priority of 255.
-pub fn priority(n: usize, priorities: &[u8]) -> Found
-    requires { ⌜ length (now priorities) ≡ n ⌝ }
-    ensures { λ r. ⌜ Finds (Fault3 n (now (priorities .entry))) r ⌝ }
+pub fn priority(priorities: &[u8]) -> Found
+    ensures { λ r. ⌜ Finds (Fault3 (now (priorities .entry))) r ⌝ }
 {
     let mut v = 0;
-    while v < n {
+    while v < priorities.len() {
         if priorities[v] == 255 {
             return Found::At(v);
         }
@@ -126,7 +128,7 @@ fn descent(stretch: &[u16]) -> Found
     Found::Nowhere
 }
 
-// 7: a target that is not above the one before it in the same vertex.
+// 7: a stretch that does not ascend.
 pub fn order(n: usize, starts: &[u16], targets: &[u16]) -> Found
     requires { ⌜ Placed n (now starts) (now targets) ⌝ }
     ensures { λ r. ⌜ Finds (Fault7 n (now (starts .entry)) (now (targets .entry))) r ⌝ }

@@ -1,55 +1,51 @@
 // The test of the tables: the first of 1 to 7 that applies, with its place.
 use crate::faults;
-use refusal::Found;
 use refusal::Kind;
-use refusal::Refusal;
-ghost use Rattle.refusal.specs.Row.{Gives};
-ghost use Rattle.game.specs.Faults.{tableRows};
-ghost use Rattle.game.specs.Answer.{tablesSaid};
-ghost use mathlib.Core.Path.{_≡_};
+use refusal::TableFault;
+use refusal::Tested;
+use refusal::or;
+ghost use Rattle.refusal.specs.promise.Row.{Gives};
+ghost use Rattle.refusal.specs.parts.Found.{testedSaid};
+ghost use Rattle.game.specs.promise.Faults.{tableRows};
+ghost use Rattle.game.specs.promise.Lent.{lent};
 
-pub enum Tables {
-    Passed,
-    Refused(Refusal),
-}
-
-fn refused(kind: Kind, place: usize) -> Tables
-    ensures { λ r. ⌜ r ≡ Tables.Refused (record { kind = kind; place = place }) ⌝ }
-{
-    Tables::Refused(Refusal { kind, place })
-}
-
-pub fn test_tables(owners: &[u8], priorities: &[u8], starts: &[u16], targets: &[u16]) -> Tables
-    ensures { λ r. ⌜ Gives (tableRows (now (owners .entry)) (now (priorities .entry)) (now (starts .entry)) (now (targets .entry))) (tablesSaid r) ⌝ }
+// Sizes come first, so that tables of any length are refused without a walk; 5 to 7 read stretches, so 4 comes before them.
+pub fn test_tables(owners: &[u8], priorities: &[u8], starts: &[u16], targets: &[u16]) -> Tested
+    ensures { λ r. ⌜ Gives (tableRows (lent owners priorities starts targets)) (testedSaid r) ⌝ }
 {
     let n = owners.len();
     let sizes = faults::sizes(owners, priorities, starts, targets);
-    if let Found::At(p) = sizes {
-        return refused(Kind::Sizes, p);
+    let one = or(Tested::Passed, sizes, Kind::Game(TableFault::Sizes));
+    if let Tested::Refused(r) = one {
+        return Tested::Refused(r);
     }
-    let owner = faults::owner(owners);
-    if let Found::At(p) = owner {
-        return refused(Kind::Owner, p);
+    let two = or(one, faults::owner(owners), Kind::Game(TableFault::Owner));
+    let three = or(
+        two,
+        faults::priority(priorities),
+        Kind::Game(TableFault::Priority),
+    );
+    let four = or(
+        three,
+        faults::start(starts, targets),
+        Kind::Game(TableFault::Start),
+    );
+    if let Tested::Refused(r) = four {
+        return Tested::Refused(r);
     }
-    let priority = faults::priority(n, priorities);
-    if let Found::At(p) = priority {
-        return refused(Kind::Priority, p);
-    }
-    let start = faults::start(starts, targets);
-    if let Found::At(p) = start {
-        return refused(Kind::Start, p);
-    }
-    let stuck = faults::stuck(n, starts, targets);
-    if let Found::At(p) = stuck {
-        return refused(Kind::Stuck, p);
-    }
-    let target = faults::target(n, targets);
-    if let Found::At(p) = target {
-        return refused(Kind::Target, p);
-    }
-    let order = faults::order(n, starts, targets);
-    if let Found::At(p) = order {
-        return refused(Kind::Order, p);
-    }
-    Tables::Passed
+    let five = or(
+        four,
+        faults::stuck(n, starts, targets),
+        Kind::Game(TableFault::Stuck),
+    );
+    let six = or(
+        five,
+        faults::target(n, targets),
+        Kind::Game(TableFault::Target),
+    );
+    or(
+        six,
+        faults::order(n, starts, targets),
+        Kind::Game(TableFault::Order),
+    )
 }

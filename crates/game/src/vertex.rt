@@ -1,11 +1,13 @@
-// One vertex: its successors, and the test of it by their marks. Both serve games that have passed 1 to 7.
+// One vertex: its successors, which the tests of the tables also read once 4 has passed, and the test of it by their marks.
 use crate::answer::mark;
 use player::Player;
 ghost use mathlib.Core.Path.{_≡_};
 ghost use Prim.Native.Nat.{ℕ, _<_};
 ghost use lib.ListN.{length, getD};
-ghost use Rattle.game.specs.Tables.{nextOf, Stretch};
-ghost use Rattle.game.specs.Answer.{markRoom, markOf, Chooses};
+ghost use Rattle.game.specs.promise.Tables.{nextOf};
+ghost use Rattle.game.specs.parts.Stretch.{Stretch};
+ghost use Rattle.game.specs.promise.Answer.{markRoom, markOf};
+ghost use Rattle.game.specs.parts.Answers.{Chooses};
 
 // What the one-vertex test finds: the first successor marked for the owner, or none.
 pub enum Choice {
@@ -19,7 +21,7 @@ pub fn wide(x: u16) -> usize
     x as usize
 }
 
-// The part of the lent target slice that belongs to v.
+// v's stretch of the lent targets, handed out as it stands.
 pub fn successors<'a>(starts: &[u16], targets: &'a [u16], v: usize) -> &'a [u16]
     requires { ⌜ Stretch (now starts) (now targets) v ⌝ }
     ensures { λ r. ⌜ now r ≡ nextOf (now (starts .entry)) (now (targets .entry)) v ⌝ }

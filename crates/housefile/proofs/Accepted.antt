@@ -5,19 +5,17 @@ use mathlib.Core.List.{List}
 use native.Mathlib.Omega.{arith}
 use native.Mathlib.Decide.{ℕ-discrete, decLt}
 use lib.ListN.{length, getD}
-use Rattle.refusal.specs.Row.{NoPlace, None}
-use Rattle.game.specs.Tables.{Placed, WellFormed}
-use Rattle.game.specs.Faults.{Fault5, Fault6, Fault7, tableRows}
+use Rattle.refusal.specs.promise.Row.{NoPlace, None}
+use Rattle.refusal.proofs.Rows.{none-of}
+use Rattle.game.specs.promise.Tables.{Tables, tablesOf, Placed, WellFormed}
+use Rattle.game.specs.promise.Faults.{Fault5, Fault6, Fault7, tableRows}
 use Rattle.game.proofs.Sizes.{Fitting, none-of-fitting}
-use Rattle.game.proofs.Starts.{none-of}
+use Rattle.game.proofs.Starts.{none-of-placed}
 use Rattle.game.proofs.WellFormed.{well-formed}
-use Rattle.housefile.specs.Format.{turnedOf, highestOf}
-use Rattle.housefile.specs.Filed.{byteAt, verticesFiled, ruleFiled, vertexPlace, ownersFiled, prioritiesFiled, startsFiled, targetsFiled}
-use Rattle.housefile.specs.Faults.{fileRows}
-use Rattle.housefile.specs.Tests.{Sized, Summed}
-use Rattle.housefile.proofs.AllRows.{all-head, all-filed}
-use Rattle.housefile.proofs.HeadTests.{head-sized}
-use Rattle.housefile.proofs.ValueTests.{summed}
+use Rattle.housefile.specs.promise.Format.{turnedOf, highestOf}
+use Rattle.housefile.specs.promise.Filed.{byteAt, verticesFiled, ruleFiled, vertexPlace, ownersFiled, prioritiesFiled, startsFiled, targetsFiled, filed, tablesFiled}
+use Rattle.housefile.specs.promise.Faults.{filedRows, judgedRows, fileRows}
+use Rattle.housefile.proofs.AllRows.{all-filed, all-sized, all-summed, all-judged}
 use Rattle.housefile.proofs.Lists.{owners-long, priorities-long, starts-long, targets-long, priority-at, placed-filed}
 use Rattle.housefile.proofs.Turning.{highest-below, turned-long, turned-plain, turned-over, turned-past}
 
@@ -29,12 +27,9 @@ turned-low rule l b all v m = at (ℕ-discrete rule 0)
     at (yes e) = let h : getD l v 0 ≤ b = all v m in omega (arith, turned-plain rule l v e)
     at (no h) = let k : highestOf l ≤ b = highest-below l b all in omega (arith, turned-over rule l v h m)
 
-module _ (file owners priorities starts targets : List ℕ) (bytes : (i : ℕ) → getD file i 0 < 256) (none : None (fileRows file owners priorities starts targets)) where
-  sizes : Sized file
-  sizes = head-sized file (all-head file owners priorities starts targets none)
-
-  sums : Summed file
-  sums = summed file sizes (all-filed file owners priorities starts targets none .0)
+module _ (file : List ℕ) (bytes : (i : ℕ) → getD file i 0 < 256) (none : None (judgedRows file)) where
+  values : None (filedRows file)
+  values = all-filed file none
 
   -- a filed priority is below 255, and so is a turned one
   ranked : (v : ℕ) → v < length (prioritiesFiled file) → getD (prioritiesFiled file) v 0 ≤ 254
@@ -42,39 +37,45 @@ module _ (file owners priorities starts targets : List ℕ) (bytes : (i : ℕ) �
       let m : v < verticesFiled file = omega (arith, priorities-long file) in
       let b : byteAt file (vertexPlace file v + 1) < 256 = bytes (vertexPlace file v + 1) in
       let e : getD (prioritiesFiled file) v 0 ≡ byteAt file (vertexPlace file v + 1) = priority-at file v m in
-      elim (ℕ-discrete (getD (prioritiesFiled file) v 0) 255) [ yes q ↦ absurd (all-filed file owners priorities starts targets none .1 .1 .0 v (record { vertex = m; top = q })) | no h ↦ omega arith ]
+      elim (ℕ-discrete (getD (prioritiesFiled file) v 0) 255) [ yes q ↦ absurd (none-of 3 (filedRows file) values v (record { vertex = l; top = q })) | no h ↦ omega arith ]
 
   -- the same under either rule: as they are filed (rule 0), and as they are read
   module _ (rule : ℕ) where
-    turned-ranked : (v : ℕ) → v < verticesFiled file → getD (turnedOf rule (prioritiesFiled file)) v 0 ≤ 254
-    turned-ranked v l = turned-low rule (prioritiesFiled file) 254 ranked v (omega (arith, priorities-long file))
+    abbrev turned : List ℕ
+    turned = turnedOf rule (prioritiesFiled file)
 
-    turned-byte : (v : ℕ) → getD (turnedOf rule (prioritiesFiled file)) v 0 < 256
-    turned-byte v = at (decLt v (verticesFiled file))
+    abbrev tables : Tables
+    tables = tablesOf (ownersFiled file) turned (startsFiled file) (targetsFiled file)
+
+    turned-ranked : (v : ℕ) → v < length turned → getD turned v 0 ≤ 254
+    turned-ranked v l = turned-low rule (prioritiesFiled file) 254 ranked v (subst (λ (k : ℕ). v < k) (turned-long rule (prioritiesFiled file)) l)
+
+    turned-byte : (v : ℕ) → getD turned v 0 < 256
+    turned-byte v = at (decLt v (length turned))
       where
-        at : Dec (v < verticesFiled file) → getD (turnedOf rule (prioritiesFiled file)) v 0 < 256
+        at : Dec (v < length turned) → getD turned v 0 < 256
         at (yes l) = omega (arith, turned-ranked v l)
         at (no h) =
-            let m : length (prioritiesFiled file) ≤ v = omega (arith, priorities-long file) in
+            let m : length (prioritiesFiled file) ≤ v = omega (arith, turned-long rule (prioritiesFiled file)) in
             omega (arith, turned-past rule (prioritiesFiled file) v m)
 
     -- the rows 1 to 7 of the tables: 2, 5, 6 and 7 are the file's own, n being the length of the owners
-    table-rows : None (tableRows (ownersFiled file) (turnedOf rule (prioritiesFiled file)) (startsFiled file) (targetsFiled file))
+    table-rows : None (tableRows tables)
     table-rows =
         let own = sym (owners-long file) in
-        let filed = all-filed file owners priorities starts targets none in (
-          none-of-fitting _ _ _ _ fits,
+        let rows = filedRows file in (
+          none-of-fitting tables fits,
           (
-            filed .1 .0,
+            none-of 2 rows values,
             (
-              (λ x f. omega (arith, turned-ranked x (subst (λ (k : ℕ). x < k) (owners-long file) (f .vertex)), f .top)),
+              (λ x f. omega (arith, turned-ranked x (f .vertex), f .top)),
               (
-                none-of _ _ _ (subst (λ (k : ℕ). Placed k (startsFiled file) (targetsFiled file)) own (placed-filed file sums)),
+                none-of-placed _ _ _ (subst (λ (k : ℕ). Placed k (startsFiled file) (targetsFiled file)) own (placed-filed file (all-summed file none))),
                 (
-                  subst (λ (k : ℕ). NoPlace (Fault5 k (startsFiled file) (targetsFiled file))) own (filed .1 .1 .1 .0),
+                  subst (λ (k : ℕ). NoPlace (Fault5 k (startsFiled file) (targetsFiled file))) own (none-of 5 rows values),
                   (
-                    subst (λ (k : ℕ). NoPlace (Fault6 k (targetsFiled file))) own (filed .1 .1 .1 .1 .0),
-                    (subst (λ (k : ℕ). NoPlace (Fault7 k (startsFiled file) (targetsFiled file))) own (filed .1 .1 .1 .1 .1 .0), tt),
+                    subst (λ (k : ℕ). NoPlace (Fault6 k (targetsFiled file))) own (none-of 6 rows values),
+                    (subst (λ (k : ℕ). NoPlace (Fault7 k (startsFiled file) (targetsFiled file))) own (none-of 7 rows values), tt),
                   ),
                 ),
               ),
@@ -82,21 +83,26 @@ module _ (file owners priorities starts targets : List ℕ) (bytes : (i : ℕ) �
           ),
         )
       where
-        fits : Fitting (ownersFiled file) (turnedOf rule (prioritiesFiled file)) (startsFiled file) (targetsFiled file)
+        fits : Fitting tables
         fits =
+            let s = all-sized file none in
             record {
-              some = omega (arith, owners-long file, sizes .some);
-              few = omega (arith, owners-long file, sizes .few);
+              some = omega (arith, owners-long file, s .some);
+              few = omega (arith, owners-long file, s .few);
               level = turned-long rule (prioritiesFiled file) ∙ priorities-long file ∙ sym (owners-long file);
               bounds = omega (arith, starts-long file, owners-long file);
-              edges = omega (arith, targets-long file, sizes .edges);
+              edges = omega (arith, targets-long file, s .edges);
             }
 
-    well : WellFormed (ownersFiled file) (turnedOf rule (prioritiesFiled file)) (startsFiled file) (targetsFiled file)
-    well = well-formed (ownersFiled file) (turnedOf rule (prioritiesFiled file)) (startsFiled file) (targetsFiled file) turned-byte table-rows
+    well : WellFormed tables
+    well = well-formed tables turned-byte table-rows
 
-  pub read-well-formed : WellFormed (ownersFiled file) (turnedOf (ruleFiled file) (prioritiesFiled file)) (startsFiled file) (targetsFiled file)
-  read-well-formed = well (ruleFiled file)
+  pub judged-well-formed : WellFormed (tablesFiled file)
+  judged-well-formed = well (ruleFiled file)
 
-  pub filed-well-formed : WellFormed (ownersFiled file) (prioritiesFiled file) (startsFiled file) (targetsFiled file)
+  pub filed-well-formed : WellFormed (filed file .tables)
   filed-well-formed = well 0
+
+-- the tables of a file that is read are those of a well-formed game
+pub read-well-formed : (file : List ℕ) (lent : Tables) → ((i : ℕ) → getD file i 0 < 256) → None (fileRows file lent) → WellFormed (tablesFiled file)
+read-well-formed file lent bytes none = judged-well-formed file bytes (all-judged file lent none)

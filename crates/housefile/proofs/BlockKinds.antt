@@ -4,7 +4,7 @@ use mathlib.Core.Path.{_≡_, refl, ap, _∙_}
 use mathlib.Core.Bool.{Bool}
 use native.Mathlib.Omega.{arith}
 use borrow.Author.Tests.{lt-ltb, le-ltb}
-use Rattle.housefile.specs.Format.{pick, kindOf, usedOf, vertexBlocks}
+use Rattle.housefile.specs.promise.Format.{pick, kindOf, usedOf, vertexBlocks}
 
 pub kind-vertex : (n b : ℕ) → ¬ (b ≡ 0) → b ≤ vertexBlocks n → kindOf n b ≡ 2
 kind-vertex n zero some l = absurd (some refl)

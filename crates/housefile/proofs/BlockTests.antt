@@ -3,11 +3,11 @@ use Prim.Native.Nat.{ℕ, _+_, _*_, _%_, _<_, _≤_}
 use mathlib.Core.Path.{_≡_, refl, ap, sym, _∙_}
 use mathlib.Core.List.{List}
 use native.Mathlib.Omega.{arith}
-use Rattle.refusal.specs.Row.{Lowest, NoPlace}
-use Rattle.housefile.specs.Format.{checkOf, kindOf, usedOf}
-use Rattle.housefile.specs.Filed.{byteAt, wordAt, verticesFiled, edgesFiled, ruleFiled}
-use Rattle.housefile.specs.Faults.{Fault42, Fault43, Fault44, number, kind, byte3, used, unused, rule}
-use Rattle.housefile.specs.Tests.{Weighed, Stain}
+use Rattle.refusal.specs.promise.Row.{Lowest, NoPlace}
+use Rattle.housefile.specs.promise.Format.{checkOf, kindOf, usedOf}
+use Rattle.housefile.specs.promise.Filed.{byteAt, wordAt, verticesFiled, edgesFiled, ruleFiled}
+use Rattle.housefile.specs.promise.Faults.{Fault42, Fault43, Fault44, number, kind, byte3, used, unused, rule}
+use Rattle.housefile.specs.parts.Tests.{Weighed, Stain}
 
 -- a row that applies at one place alone
 pub only-at : {P : ℕ → Type 0} {b : ℕ} → ((y : ℕ) → P y → y ≡ b) → P b → Lowest P b

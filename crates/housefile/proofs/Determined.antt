@@ -3,29 +3,27 @@ use Prim.Native.Nat.{ℕ}
 use mathlib.Core.Path.{_≡_, ap, sym, _∙_}
 use mathlib.Core.List.{List}
 use lib.Seq.{ext-getD}
-use Rattle.refusal.specs.Row.{Said, success, refused, first-not-none, first-unique}
-use Rattle.housefile.specs.Faults.{fileRows}
-use Rattle.housefile.specs.Reading.{Holds, Reads}
+use Rattle.refusal.specs.promise.Row.{Said, success, refused}
+use Rattle.refusal.proofs.Rows.{first-not-none, first-unique}
+use Rattle.game.specs.promise.Tables.{Tables, tablesOf}
+use Rattle.housefile.specs.promise.Faults.{fileRows}
+use Rattle.housefile.specs.promise.Reading.{Padded, Holding, Reads}
 
--- a table that holds a list is determined by it
-holds-unique : (size : ℕ) (list a b : List ℕ) → Holds size list a → Holds size list b → a ≡ b
-holds-unique size list a b x y = ext-getD 0 a b (x .long ∙ sym (y .long)) (λ i l. x .same i ∙ sym (y .same i))
+-- a table that holds a list is determined by it, and so are the four
+padded-unique : (size : ℕ) (list a b : List ℕ) → Padded size list a → Padded size list b → a ≡ b
+padded-unique size list a b x y = ext-getD 0 a b (x .long ∙ sym (y .long)) (λ i l. x .same i ∙ sym (y .same i))
 
-module _ (file o p s t o1 p1 s1 t1 o2 p2 s2 t2 : List ℕ) where
-  pub determined : (a b : Said) → Reads file o p s t o1 p1 s1 t1 a → Reads file o p s t o2 p2 s2 t2 b → (a ≡ b) × (o1 ≡ o2) × (p1 ≡ p2) × (s1 ≡ s2) × (t1 ≡ t2)
-  determined (success v) (success w) x y = (
-    ap success (x .values-are ∙ sym (y .values-are)),
-    holds-unique _ _ o1 o2 (x .owners-hold) (y .owners-hold),
-    holds-unique _ _ p1 p2 (x .priorities-hold) (y .priorities-hold),
-    holds-unique _ _ s1 s2 (x .starts-hold) (y .starts-hold),
-    holds-unique _ _ t1 t2 (x .targets-hold) (y .targets-hold),
-  )
-  determined (success v) (refused l z) x y = absurd (first-not-none (fileRows file o p s t) l z (y .first) (x .none))
-  determined (refused k z) (success w) x y = absurd (first-not-none (fileRows file o p s t) k z (x .first) (y .none))
-  determined (refused k z) (refused l u) x y = (
-    first-unique (fileRows file o p s t) k l z u (x .first) (y .first),
-    x .owners-same ∙ sym (y .owners-same),
-    x .priorities-same ∙ sym (y .priorities-same),
-    x .starts-same ∙ sym (y .starts-same),
-    x .targets-same ∙ sym (y .targets-same),
-  )
+holding-unique : (t a b : Tables) → Holding t a → Holding t b → a ≡ b
+holding-unique t a b x y =
+    let o = padded-unique _ _ (a .owners) (b .owners) (x .owners) (y .owners) in
+    let p = padded-unique _ _ (a .priorities) (b .priorities) (x .priorities) (y .priorities) in
+    let s = padded-unique _ _ (a .starts) (b .starts) (x .starts) (y .starts) in
+    let e = padded-unique _ _ (a .targets) (b .targets) (x .targets) (y .targets) in
+    λ i. tablesOf (o i) (p i) (s i) (e i)
+
+module _ (file : List ℕ) (lent t u : Tables) where
+  pub determined : (a b : Said) → Reads file lent t a → Reads file lent u b → (a ≡ b) × (t ≡ u)
+  determined (success v) (success w) x y = (ap success (x .values-are ∙ sym (y .values-are)), holding-unique _ t u (x .holds) (y .holds))
+  determined (success v) (refused l z) x y = absurd (first-not-none (fileRows file lent) l z (y .first) (x .none))
+  determined (refused k z) (success w) x y = absurd (first-not-none (fileRows file lent) k z (x .first) (y .none))
+  determined (refused k z) (refused l q) x y = (first-unique (fileRows file lent) k l z q (x .first) (y .first), x .same ∙ sym (y .same))

@@ -6,18 +6,19 @@ use mathlib.Core.List.{List}
 use native.Mathlib.Omega.{arith}
 use native.Mathlib.Nat.{le-refl}
 use lib.ListN.{length, getD}
-use Rattle.refusal.specs.Row.{NoPlace, None}
-use Rattle.game.specs.Tables.{WellFormed}
-use Rattle.game.specs.Faults.{Fault2, Fault3, Fault5, Fault6, Fault7}
+use Rattle.refusal.specs.promise.Row.{NoPlace, None}
+use Rattle.refusal.proofs.Rows.{none-of}
+use Rattle.game.specs.promise.Tables.{Tables, tablesOf, vertices, WellFormed}
+use Rattle.game.specs.promise.Faults.{Fault2, Fault3, Fault5, Fault6, Fault7, tableRows}
+use Rattle.game.specs.promise.Lent.{Fit}
 use Rattle.game.proofs.WellFormed.{none-applies}
-use Rattle.housefile.specs.Format.{Filing, sumTo, vertexBlocks, targetBlocks, fileOf}
-use Rattle.housefile.specs.Filed.{verticesFiled, edgesFiled, countFiled, filed}
-use Rattle.housefile.specs.Faults.{FaultSizes, headRows, filedRows, fileRows}
-use Rattle.housefile.specs.Tests.{turnRows}
+use Rattle.housefile.specs.promise.Format.{Filing, sumTo, vertexBlocks, targetBlocks, fileOf}
+use Rattle.housefile.specs.promise.Filed.{verticesFiled, edgesFiled, countFiled, filed}
+use Rattle.housefile.specs.promise.Faults.{FaultSizes, headRows, turnRows, filedRows, tableSizes, fileRows}
 use Rattle.housefile.proofs.HeadTests.{sizes-right, head-none, head-first-block}
 use Rattle.housefile.proofs.InTurn.{turn-none}
 use Rattle.housefile.proofs.RightBlock.{right-of, none-of-right}
-use Rattle.housefile.proofs.AllRows.{Fixed, none-of-fixed, rows-none, all-head}
+use Rattle.housefile.proofs.AllRows.{all-head, judged-none, rows-none, all-judged}
 use Rattle.housefile.proofs.FileOf.{file-long}
 use Rattle.housefile.proofs.Written.{vertices-are, edges-are, rule-is, right-written, owners-are, priorities-are, targets-are, sum-is, starts-are}
 use Rattle.housefile.proofs.Accepted.{filed-well-formed}
@@ -25,7 +26,7 @@ use Rattle.housefile.proofs.Taken.{taken-is-file}
 
 -- what may be filed
 pub record Fileable (f : Filing) : Type 0 where
-  pub tables : WellFormed (f .owners) (f .priorities) (f .starts) (f .targets)
+  pub tables : WellFormed (f .tables)
   pub rule-low : f .rule ≤ 1
 
 module _ (f : Filing) (fine : Fileable f) where
@@ -37,7 +38,7 @@ module _ (f : Filing) (fine : Fileable f) where
       let s = starts-are f (fine .tables .placed) in
       let t = targets-are f in
       let r = rule-is f in
-      λ i. record { owners = o i; priorities = p i; starts = s i; targets = t i; rule = r i }
+      λ i. record { tables = tablesOf (o i) (p i) (s i) (t i); rule = r i }
 
   head : None (headRows (fileOf f))
   head =
@@ -58,22 +59,21 @@ module _ (f : Filing) (fine : Fileable f) where
 
   values : None (filedRows (fileOf f))
   values =
-      let none = none-applies _ _ _ _ (fine .tables) in
+      let rows = tableRows (f .tables) in
+      let none = none-applies (f .tables) (fine .tables) in
       let n = sym (vertices-are f) in
-      let o = sym (owners-are f) in
-      let p = sym (priorities-are f (fine .tables .level)) in
       let s = sym (starts-are f (fine .tables .placed)) in
       let t = sym (targets-are f) in (
         (λ x h. h .wrong sum),
         (
-          subst (λ (l : List ℕ). NoPlace (Fault2 l)) o (none .1 .0),
+          subst (λ (l : List ℕ). NoPlace (Fault2 l)) (sym (owners-are f)) (none-of 2 rows none),
           (
-            subst₂ (λ (k : ℕ) (l : List ℕ). NoPlace (Fault3 k l)) n p (none .1 .1 .0),
+            subst (λ (l : List ℕ). NoPlace (Fault3 l)) (sym (priorities-are f (fine .tables .level))) (none-of 3 rows none),
             (
-              subst₃ (λ (k : ℕ) (a b : List ℕ). NoPlace (Fault5 k a b)) n s t (none .1 .1 .1 .1 .0),
+              subst₃ (λ (k : ℕ) (a b : List ℕ). NoPlace (Fault5 k a b)) n s t (none-of 5 rows none),
               (
-                subst₂ (λ (k : ℕ) (l : List ℕ). NoPlace (Fault6 k l)) n t (none .1 .1 .1 .1 .1 .0),
-                (subst₃ (λ (k : ℕ) (a b : List ℕ). NoPlace (Fault7 k a b)) n s t (none .1 .1 .1 .1 .1 .1 .0), tt),
+                subst₂ (λ (k : ℕ) (l : List ℕ). NoPlace (Fault6 k l)) n t (none-of 6 rows none),
+                (subst₃ (λ (k : ℕ) (a b : List ℕ). NoPlace (Fault7 k a b)) n s t (none-of 7 rows none), tt),
               ),
             ),
           ),
@@ -82,26 +82,27 @@ module _ (f : Filing) (fine : Fileable f) where
     where
       sum : sumTo (verticesFiled (fileOf f)) (countFiled (fileOf f)) ≡ edgesFiled (fileOf f)
       sum =
-          subst (λ (k : ℕ). sumTo k (countFiled (fileOf f)) ≡ length (f .targets)) (sym (vertices-are f)) (sum-is f (fine .tables .placed) (length (f .owners)) (le-refl _) ∙ fine .tables .placed .last) ∙
+          subst (λ (k : ℕ). sumTo k (countFiled (fileOf f)) ≡ length (f .tables .targets)) (sym (vertices-are f)) (sum-is f (fine .tables .placed) (vertices (f .tables)) (le-refl _) ∙ fine .tables .placed .last) ∙
           sym (edges-are f)
 
-  pub file-is-taken : (owners priorities starts targets : List ℕ) → Fixed owners priorities starts targets → None (fileRows (fileOf f) owners priorities starts targets)
-  file-is-taken owners priorities starts targets fixed = rows-none (fileOf f) owners priorities starts targets head turn values (none-of-fixed owners priorities starts targets fixed)
+  pub file-is-taken : (lent : Tables) → Fit (tableSizes lent) → None (fileRows (fileOf f) lent)
+  file-is-taken lent fit = rows-none (fileOf f) lent (judged-none (fileOf f) head turn values) fit
 
-module _ (file owners priorities starts targets : List ℕ) (bytes : (i : ℕ) → getD file i 0 < 256) (fixed : Fixed owners priorities starts targets) where
+module _ (file : List ℕ) (lent : Tables) (bytes : (i : ℕ) → getD file i 0 < 256) (fit : Fit (tableSizes lent)) where
   -- success exactly if the bytes are such a file
-  pub taken-exactly-if : None (fileRows file owners priorities starts targets) ↔ ((f : Filing) × Fileable f × (file ≡ fileOf f))
+  pub taken-exactly-if : None (fileRows file lent) ↔ ((f : Filing) × Fileable f × (file ≡ fileOf f))
   taken-exactly-if = (there, back)
     where
-      there : None (fileRows file owners priorities starts targets) → (f : Filing) × Fileable f × (file ≡ fileOf f)
-      there none = (
-        filed file,
-        record {
-          tables = filed-well-formed file owners priorities starts targets bytes none;
-          rule-low = right-of file 0 (head-first-block file (all-head file owners priorities starts targets none)) .is-rule refl;
-        },
-        taken-is-file file owners priorities starts targets bytes none,
-      )
+      there : None (fileRows file lent) → (f : Filing) × Fileable f × (file ≡ fileOf f)
+      there none =
+          let judged = all-judged file lent none in (
+            filed file,
+            record {
+              tables = filed-well-formed file bytes judged;
+              rule-low = right-of file 0 (head-first-block file (all-head file judged)) .is-rule refl;
+            },
+            taken-is-file file bytes judged,
+          )
 
-      back : (f : Filing) × Fileable f × (file ≡ fileOf f) → None (fileRows file owners priorities starts targets)
-      back (f, fine, e) = subst (λ (l : List ℕ). None (fileRows l owners priorities starts targets)) (sym e) (file-is-taken f fine owners priorities starts targets fixed)
+      back : (f : Filing) × Fileable f × (file ≡ fileOf f) → None (fileRows file lent)
+      back (f, fine, e) = subst (λ (l : List ℕ). None (fileRows l lent)) (sym e) (file-is-taken f fine lent fit)

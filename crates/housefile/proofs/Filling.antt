@@ -7,7 +7,7 @@ use native.Mathlib.Nat.{not-suc-le-zero}
 use native.Mathlib.Decide.{ℕ-discrete, decLt}
 use lib.ListN.{length, getD, set, length-set, List·getD-eq-default}
 use lib.Seq.{getD-set-same, getD-set-other}
-use Rattle.housefile.specs.Reading.{Holds}
+use Rattle.housefile.specs.promise.Reading.{Padded}
 
 pub record Filling (size : ℕ) (list table : List ℕ) (i : ℕ) : Type 0 where
   pub long : length table ≡ size
@@ -23,7 +23,7 @@ filling-more size list table i r l e f = record { long = length-set table i r �
     at k m (yes q) = subst (λ (j : ℕ). getD (set table i r) j 0 ≡ getD list j 0) (sym q) (getD-set-same table i r 0 (omega (arith, f .long)) ∙ e)
     at k m (no h) = getD-set-other table i k r 0 h ∙ f .same k (omega arith)
 
-pub filling-all : (size : ℕ) (list table : List ℕ) (i : ℕ) → length list ≤ size → size ≤ i → Filling size list table i → Holds size list table
+pub filling-all : (size : ℕ) (list table : List ℕ) (i : ℕ) → length list ≤ size → size ≤ i → Filling size list table i → Padded size list table
 filling-all size list table i short l f = record { long = f .long; same = λ k. at k (decLt k size) }
   where
     at : (k : ℕ) → Dec (k < size) → getD table k 0 ≡ getD list k 0

@@ -1,16 +1,16 @@
 -- The sizes and the lengths that block 0 announces.
 use Prim.Native.Nat.{ℕ, _*_, _≤_}
 use mathlib.Core.Path.{_≡_, refl, _∙_}
-use mathlib.Core.List.{List, [], _∷_}
-use mathlib.Core.Logic.{inl, inr}
+use mathlib.Core.List.{List, [], _∷_, _++_}
 use native.Mathlib.Omega.{arith}
 use native.Mathlib.Decide.{ℕ-discrete, decLt}
 use lib.ListN.{length}
-use Rattle.refusal.specs.Row.{Row, NoPlace, None, First, Lowest, first-left, first-right, none-append, none-left, none-right}
-use Rattle.housefile.specs.Format.{blocksOf}
-use Rattle.housefile.specs.Filed.{verticesFiled, edgesFiled}
-use Rattle.housefile.specs.Faults.{Fault41Short, FaultSizes, no-vertex, over-2048, over-16384, Fault41Length, blockRows, headRows}
-use Rattle.housefile.specs.Tests.{Sized}
+use Rattle.refusal.specs.promise.Row.{Row, row, NoPlace, None}
+use Rattle.refusal.proofs.Rows.{none-append, none-left, none-of}
+use Rattle.housefile.specs.promise.Format.{blocksOf}
+use Rattle.housefile.specs.promise.Filed.{verticesFiled, edgesFiled}
+use Rattle.housefile.specs.promise.Faults.{Fault41Short, FaultSizes, no-vertex, over-2048, over-16384, Fault41Length, blockRows, headRows}
+use Rattle.housefile.specs.parts.Tests.{FileSized}
 
 pub sizes-right : (file : List ℕ) (n m : ℕ) → n ≡ verticesFiled file → m ≡ edgesFiled file → ¬ (n ≡ 0) → n ≤ 2048 → m ≤ 16384 → NoPlace (FaultSizes file)
 sizes-right file n m vertices edges some few all x (no-vertex _ h) = some (vertices ∙ h)
@@ -22,8 +22,8 @@ pub headed : (file : List ℕ) → NoPlace (Fault41Short file) → 512 ≤ lengt
 headed file none = elim (decLt (length file) 512) [ yes l ↦ absurd (none _ (record { place = refl; short = l })) | no h ↦ omega arith ]
 
 -- 1 and 41 passed: all that is filed lies in the file
-pub sized : (file : List ℕ) → NoPlace (FaultSizes file) → NoPlace (Fault41Length file) → Sized file
-sized file sizes long =
+file-sized : (file : List ℕ) → NoPlace (FaultSizes file) → NoPlace (Fault41Length file) → FileSized file
+file-sized file sizes long =
     record {
       some = elim (ℕ-discrete (verticesFiled file) 0) [ yes e ↦ absurd (sizes 0 (no-vertex refl e)) | no h ↦ omega arith ];
       few = elim (decLt 2048 (verticesFiled file)) [ yes l ↦ absurd (sizes 0 (over-2048 refl l)) | no h ↦ omega arith ];
@@ -33,26 +33,15 @@ sized file sizes long =
 
 -- the rows of the header after block 0's own
 abbrev sizeRows : List ℕ → List Row
-sizeRows file = record { number = 1; applies = FaultSizes file } ∷ record { number = 41; applies = Fault41Length file } ∷ []
+sizeRows file = row 1 (FaultSizes file) ∷ row 41 (Fault41Length file) ∷ []
 
-module _ (file : List ℕ) (long : NoPlace (Fault41Short file)) where
-  pub head-block : (k x : ℕ) → First (blockRows file 0) k x → First (headRows file) k x
-  head-block k x f = inr (long, first-left (blockRows file 0) (sizeRows file) k x f)
+pub head-none : (file : List ℕ) → NoPlace (Fault41Short file) → None (blockRows file 0) → NoPlace (FaultSizes file) → NoPlace (Fault41Length file) → None (headRows file)
+head-none file long block sizes extent = (long, none-append (blockRows file 0) (sizeRows file) block (sizes, (extent, tt)))
 
-  module _ (block : None (blockRows file 0)) where
-    pub head-sizes : (x : ℕ) → Lowest (FaultSizes file) x → First (headRows file) 1 x
-    head-sizes x f = inr (long, first-right (blockRows file 0) (sizeRows file) 1 x block (inl (refl, f)))
-
-    pub head-length : (x : ℕ) → NoPlace (FaultSizes file) → Lowest (Fault41Length file) x → First (headRows file) 41 x
-    head-length x sizes f = inr (long, first-right (blockRows file 0) (sizeRows file) 41 x block (inr (sizes, inl (refl, f))))
-
-    pub head-none : NoPlace (FaultSizes file) → NoPlace (Fault41Length file) → None (headRows file)
-    head-none sizes extent = (long, none-append (blockRows file 0) (sizeRows file) block (sizes, (extent, tt)))
-
--- a header that passes: what its rows say, one by one
+-- a header that passes: what its rows say, one by one; the exact length is the second 41
 module _ (file : List ℕ) (none : None (headRows file)) where
   pub head-first-block : None (blockRows file 0)
   head-first-block = none-left (blockRows file 0) (sizeRows file) (none .1)
 
-  pub head-sized : Sized file
-  head-sized = let n : None (sizeRows file) = none-right (blockRows file 0) (sizeRows file) (none .1) in sized file (n .0) (n .1 .0)
+  pub head-sized : FileSized file
+  head-sized = file-sized file (none-of 1 (headRows file) none) (none-of 41 (blockRows file 0 ++ sizeRows file) (none .1))

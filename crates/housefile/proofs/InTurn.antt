@@ -1,15 +1,16 @@
--- "Then each block in turn": the first block that is refused, after blocks that pass, decides.
+-- The blocks in turn: the first that is refused, after blocks that pass, decides.
 use Prim.Native.Nat.{ℕ, zero, suc, _+_, _<_, _≤_}
 use mathlib.Core.Path.{_≡_, ap, ap₂, subst, _∙_}
 use mathlib.Core.List.{List}
 use native.Mathlib.Omega.{arith}
 use native.Mathlib.Nat.{not-suc-le-zero, le-of-suc-le-suc, add-zero}
 use borrow.Author.Count.{below-more}
-use Rattle.refusal.specs.Row.{None, First, first-left, first-right, none-append, none-left, none-right}
-use Rattle.housefile.specs.Format.{vertexBlocks, targetBlocks}
-use Rattle.housefile.specs.Filed.{verticesFiled, edgesFiled}
-use Rattle.housefile.specs.Faults.{blockRows, blocksRows}
-use Rattle.housefile.specs.Tests.{Present, Sized, turnRows}
+use Rattle.refusal.specs.promise.Row.{None, First}
+use Rattle.refusal.proofs.Rows.{first-left, first-right, none-append, none-left, none-right}
+use Rattle.housefile.specs.promise.Format.{vertexBlocks, targetBlocks}
+use Rattle.housefile.specs.promise.Filed.{verticesFiled, edgesFiled}
+use Rattle.housefile.specs.promise.Faults.{blockRows, blocksRows, turnRows}
+use Rattle.housefile.specs.parts.Tests.{Present, FileSized}
 
 module _ (file : List ℕ) where
   later : (P : ℕ → Type 0) (b i : ℕ) → P (b + suc i) → P (suc b + i)
@@ -57,5 +58,5 @@ module _ (file : List ℕ) (total : ℕ) (is : total ≡ vertexBlocks (verticesF
   pub passing-all : Passing file b → total ≤ b → None (turnRows file)
   passing-all p l = subst (λ (k : ℕ). None (blocksRows file 1 k)) is (turn-none file 1 total (λ i m. p .clear i (omega arith)))
 
-  pub passing-present : Sized file → b < total → Present file (1 + b)
+  pub passing-present : FileSized file → b < total → Present file (1 + b)
   passing-present s l = record { room = omega (arith, s .long); counted = omega arith }

@@ -3,7 +3,6 @@ pub mod Weigh
 pub mod BlockKinds
 pub mod BlockTests
 pub mod HeadTests
-pub mod Said
 pub mod Tabulate
 pub mod Sums
 pub mod Lists

@@ -5,11 +5,11 @@ use mathlib.Core.List.{List}
 use native.Mathlib.Omega.{arith}
 use native.Mathlib.Nat.{le-refl}
 use lib.ListN.{length, getD}
-use Rattle.game.specs.Tables.{nextOf, Placed}
+use Rattle.game.specs.promise.Tables.{nextOf, Placed}
 use Rattle.game.proofs.Starts.{stretch-of, stretch-length}
-use Rattle.housefile.specs.Format.{sumTo}
-use Rattle.housefile.specs.Filed.{byteAt, wordAt, verticesFiled, edgesFiled, vertexPlace, targetPlace, countFiled, ownersFiled, prioritiesFiled, startsFiled, targetsFiled}
-use Rattle.housefile.specs.Tests.{Summed}
+use Rattle.housefile.specs.promise.Format.{sumTo}
+use Rattle.housefile.specs.promise.Filed.{byteAt, wordAt, verticesFiled, edgesFiled, vertexPlace, targetPlace, countFiled, ownersFiled, prioritiesFiled, startsFiled, targetsFiled}
+use Rattle.housefile.specs.parts.Tests.{Summed}
 use Rattle.housefile.proofs.Tabulate.{length-tabulate, tabulate-at, tabulate-past}
 use Rattle.housefile.proofs.Sums.{sum-more, sum-upto}
 

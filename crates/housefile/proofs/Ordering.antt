@@ -4,16 +4,17 @@ use mathlib.Core.Path.{_≡_, refl, ap₂, sym, _∙_}
 use mathlib.Core.List.{List}
 use native.Mathlib.Omega.{arith}
 use lib.ListN.{length, getD, take, drop}
-use Rattle.refusal.specs.Row.{Lowest, NoPlace}
+use Rattle.refusal.specs.promise.Row.{Lowest, NoPlace}
 use Rattle.refusal.specs.declared.Found.{Found}
 use Rattle.refusal.specs.declared.Found.the-variants.{At, Nowhere}
-use Rattle.refusal.specs.Found.{Finds, Scanned, scan-none}
-use Rattle.game.specs.Tables.{nextOf}
-use Rattle.game.specs.Faults.{Descent, Fault7}
+use Rattle.refusal.specs.parts.Found.{Finds, Scanned}
+use Rattle.refusal.proofs.Scans.{scan-none}
+use Rattle.game.specs.promise.Tables.{nextOf}
+use Rattle.game.specs.promise.Faults.{Descent, Fault7}
 use Rattle.game.proofs.Order.{Unordered, order-found, order-within, order-more, order-none}
-use Rattle.housefile.specs.Format.{sumTo}
-use Rattle.housefile.specs.Filed.{verticesFiled, countFiled, startsFiled, targetsFiled}
-use Rattle.housefile.specs.Tests.{Summed, Span, firstTarget}
+use Rattle.housefile.specs.promise.Format.{sumTo}
+use Rattle.housefile.specs.promise.Filed.{verticesFiled, countFiled, startsFiled, targetsFiled}
+use Rattle.housefile.specs.parts.Tests.{Summed, Span, firstTarget}
 use Rattle.housefile.proofs.Sums.{sum-more}
 use Rattle.housefile.proofs.Lists.{targets-long, start-at, placed-filed, count-is, span-within}
 

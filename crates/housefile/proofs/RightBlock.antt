@@ -4,10 +4,10 @@ use mathlib.Core.Path.{_≡_, refl}
 use mathlib.Core.List.{List}
 use native.Mathlib.Omega.{arith}
 use native.Mathlib.Decide.{ℕ-discrete, decLt}
-use Rattle.refusal.specs.Row.{NoPlace, None}
-use Rattle.housefile.specs.Format.{checkOf, kindOf, usedOf}
-use Rattle.housefile.specs.Filed.{byteAt, wordAt, verticesFiled, edgesFiled, ruleFiled}
-use Rattle.housefile.specs.Faults.{Fault43, Fault44, number, kind, byte3, used, unused, rule, blockRows}
+use Rattle.refusal.specs.promise.Row.{NoPlace, None}
+use Rattle.housefile.specs.promise.Format.{checkOf, kindOf, usedOf}
+use Rattle.housefile.specs.promise.Filed.{byteAt, wordAt, verticesFiled, edgesFiled, ruleFiled}
+use Rattle.housefile.specs.promise.Faults.{Fault43, Fault44, number, kind, byte3, used, unused, rule, blockRows}
 
 pub record Right (file : List ℕ) (b : ℕ) : Type 0 where
   pub is-number : wordAt file (512 * b) ≡ b

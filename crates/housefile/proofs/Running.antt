@@ -5,9 +5,9 @@ use mathlib.Core.List.{List}
 use native.Mathlib.Omega.{arith}
 use native.Mathlib.Decide.{decLt, decLe}
 use lib.ListN.{getD}
-use Rattle.housefile.specs.Format.{sumTo}
-use Rattle.housefile.specs.Filed.{verticesFiled, edgesFiled, countFiled, startsFiled}
-use Rattle.housefile.specs.Tests.{Summed, CountAt, StartAt}
+use Rattle.housefile.specs.promise.Format.{sumTo}
+use Rattle.housefile.specs.promise.Filed.{verticesFiled, edgesFiled, countFiled, startsFiled}
+use Rattle.housefile.specs.parts.Tests.{Summed, CountAt, StartAt}
 use Rattle.housefile.proofs.Sums.{sum-more}
 use Rattle.housefile.proofs.Lists.{start-at, start-past, span-within}
 

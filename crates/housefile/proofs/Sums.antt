@@ -4,7 +4,7 @@ use mathlib.Core.Path.{_≡_, refl, ap, ap₂, subst}
 use native.Mathlib.Omega.{arith}
 use native.Mathlib.Nat.{le-refl, add-zero, add-suc, add-sub-of-le}
 use native.Mathlib.Numerals.{add-one}
-use Rattle.housefile.specs.Format.{sumTo}
+use Rattle.housefile.specs.promise.Format.{sumTo}
 
 pub sum-more : (v : ℕ) (f : ℕ → ℕ) → sumTo (v + 1) f ≡ f v + sumTo v f
 sum-more v f = ap (λ (k : ℕ). sumTo k f) (add-one v)

@@ -8,18 +8,17 @@ use borrow.Author.Tests.{lt-ltb, le-ltb}
 use lib.Dec.{ltb}
 use lib.ListN.{length, getD}
 use lib.Seq.{ext-getD}
-use Rattle.refusal.specs.Row.{None}
-use Rattle.housefile.specs.Format.{pick, lowHigh, checkOf, vertexBlocks, targetBlocks, blocksOf, kindOf, usedOf, headByte, vertexByte, payloadByte, bodyByte, blockByte, fileOf}
-use Rattle.housefile.specs.Filed.{byteAt, wordAt, verticesFiled, edgesFiled, vertexPlace, targetPlace, ownersFiled, targetsFiled, filed}
-use Rattle.housefile.specs.Faults.{fileRows}
-use Rattle.housefile.specs.Tests.{Sized, Summed}
+use Rattle.refusal.specs.promise.Row.{None}
+use Rattle.housefile.specs.promise.Format.{pick, lowHigh, checkOf, vertexBlocks, targetBlocks, blocksOf, kindOf, usedOf, headByte, vertexByte, payloadByte, bodyByte, blockByte, fileOf}
+use Rattle.housefile.specs.promise.Filed.{byteAt, wordAt, verticesFiled, edgesFiled, vertexPlace, targetPlace, ownersFiled, targetsFiled, filed}
+use Rattle.housefile.specs.promise.Faults.{judgedRows}
+use Rattle.housefile.specs.parts.Tests.{FileSized, Summed}
 use Rattle.housefile.proofs.Sums.{sum-same}
 use Rattle.housefile.proofs.FileOf.{file-long, file-at}
 use Rattle.housefile.proofs.Lists.{owners-long, targets-long, owner-at, priority-at, target-at, count-is}
-use Rattle.housefile.proofs.HeadTests.{head-sized, head-first-block}
-use Rattle.housefile.proofs.ValueTests.{summed}
+use Rattle.housefile.proofs.HeadTests.{head-first-block}
 use Rattle.housefile.proofs.InTurn.{turn-each}
-use Rattle.housefile.proofs.AllRows.{all-head, all-turn, all-filed}
+use Rattle.housefile.proofs.AllRows.{all-head, all-turn, all-sized, all-summed}
 use Rattle.housefile.proofs.Picks.{pick-true, pick-false}
 use Rattle.housefile.proofs.BlockKinds.{used-vertex, used-target}
 use Rattle.housefile.proofs.RightBlock.{Right, right-of}
@@ -45,7 +44,7 @@ module _ (file : List ℕ) (bytes : (i : ℕ) → getD file i 0 < 256) where
   head-byte (suc (suc (suc (suc (suc k))))) l = absurd (let z : ⊥ = omega arith in z)
 
   module _ (s : Summed file) where
-    vertex-byte : (v j : ℕ) → v < verticesFiled file → j < 4 → byteAt file (vertexPlace file v + j) ≡ vertexByte (filed file) v j
+    vertex-byte : (v j : ℕ) → v < verticesFiled file → j < 4 → byteAt file (vertexPlace file v + j) ≡ vertexByte (filed file .tables) v j
     vertex-byte v zero l m = ap (byteAt file) (let q : vertexPlace file v + 0 ≡ vertexPlace file v = omega arith in q) ∙ sym (owner-at file v l)
     vertex-byte v (suc zero) l m = sym (priority-at file v l)
     vertex-byte v (suc (suc j)) l m =
@@ -119,16 +118,16 @@ module _ (file : List ℕ) (bytes : (i : ℕ) → getD file i 0 < 256) where
             let q : 512 * b + i ≡ 512 * b + 510 + (i - 510) = omega arith in
             ap (byteAt file) q ∙ word-byte (512 * b + 510) _ (i - 510) (r .is-check ∙ check) (omega arith) ∙ sym (pick-false _ _ (le-ltb i 510 (omega arith)))
 
-module _ (file owners priorities starts targets : List ℕ) (bytes : (i : ℕ) → getD file i 0 < 256) (none : None (fileRows file owners priorities starts targets)) where
-  head : Sized file
-  head = head-sized file (all-head file owners priorities starts targets none)
+module _ (file : List ℕ) (bytes : (i : ℕ) → getD file i 0 < 256) (none : None (judgedRows file)) where
+  head : FileSized file
+  head = all-sized file none
 
   right : (b : ℕ) → b < blocksOf (verticesFiled file) (edgesFiled file) → Right file b
-  right zero l = right-of file 0 (head-first-block file (all-head file owners priorities starts targets none))
+  right zero l = right-of file 0 (head-first-block file (all-head file none))
   right (suc b) l =
       let e : 1 + b ≡ suc b = omega arith in
       let m : b < vertexBlocks (verticesFiled file) + targetBlocks (edgesFiled file) = omega arith in
-      subst (Right file) e (right-of file (1 + b) (turn-each file 1 _ (all-turn file owners priorities starts targets none) b m))
+      subst (Right file) e (right-of file (1 + b) (turn-each file 1 _ (all-turn file none) b m))
 
   pub taken-is-file : file ≡ fileOf (filed file)
   taken-is-file = ext-getD 0 file (fileOf (filed file)) long same
@@ -143,5 +142,5 @@ module _ (file owners priorities starts targets : List ℕ) (bytes : (i : ℕ) �
           let m : i % 512 < 512 = omega arith in
           let u : i < 512 * blocksOf (length (ownersFiled file)) (length (targetsFiled file)) = omega (arith, head .long, owners-long file, targets-long file) in
           ap (λ (j : ℕ). getD file j 0) q ∙
-          block-byte file bytes (summed file head (all-filed file owners priorities starts targets none .0)) (i / 512) (i % 512) (right (i / 512) b) b m ∙
+          block-byte file bytes (all-summed file none) (i / 512) (i % 512) (right (i / 512) b) b m ∙
           sym (file-at (filed file) i u)

@@ -7,7 +7,7 @@ use native.Mathlib.Nat.{le-of-suc-le-suc, not-suc-le-zero}
 use native.Mathlib.Numerals.{add-one}
 use lib.ListN.{length, getD, drop, length-map, drop-of-length-le, List·getD-eq-default}
 use lib.Seq.{drop-cons}
-use Rattle.housefile.specs.Format.{highestOf, turnedOf}
+use Rattle.housefile.specs.promise.Format.{highestOf, turnedOf}
 
 pub highest-above : (l : List ℕ) (k : ℕ) → getD l k 0 ≤ highestOf l
 highest-above [] k = omega arith

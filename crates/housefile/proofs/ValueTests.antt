@@ -6,15 +6,15 @@ use native.Mathlib.Omega.{arith}
 use native.Mathlib.Decide.{ℕ-discrete}
 use lib.ListN.{length, getD, take, drop, length-take, length-drop}
 use lib.Seq.{getD-take, getD-drop}
-use Rattle.refusal.specs.Row.{NoPlace}
-use Rattle.refusal.specs.Found.{Scanned}
-use Rattle.game.specs.Faults.{Fault2, Fault3, Fault5, Fault6, Descent}
-use Rattle.housefile.specs.Format.{sumTo}
-use Rattle.housefile.specs.Filed.{verticesFiled, edgesFiled, countFiled, ownersFiled, prioritiesFiled, startsFiled, targetsFiled}
-use Rattle.housefile.specs.Faults.{Fault45}
-use Rattle.housefile.specs.Tests.{Sized, Summed, Span, Totals}
+use Rattle.refusal.specs.promise.Row.{NoPlace}
+use Rattle.refusal.specs.parts.Found.{Scanned}
+use Rattle.game.specs.promise.Faults.{Fault2, Fault3, Fault5, Fault6, Descent}
+use Rattle.housefile.specs.promise.Format.{sumTo}
+use Rattle.housefile.specs.promise.Filed.{verticesFiled, edgesFiled, countFiled, ownersFiled, prioritiesFiled, startsFiled, targetsFiled}
+use Rattle.housefile.specs.promise.Faults.{Fault45}
+use Rattle.housefile.specs.parts.Tests.{FileSized, Summed, Span, Totals}
 use Rattle.housefile.proofs.Sums.{sum-more}
-use Rattle.housefile.proofs.Lists.{owners-long, targets-long, next-long}
+use Rattle.housefile.proofs.Lists.{owners-long, priorities-long, targets-long, next-long}
 
 -- the sum of the first v counts, of which none takes more than two bytes
 pub record Total (file : List ℕ) (sum v : ℕ) : Type 0 where
@@ -35,7 +35,7 @@ total-all file sum v e t = record { is = subst (λ (k : ℕ). sum ≡ sumTo k (c
 
 -- 45
 
-pub summed : (file : List ℕ) → Sized file → NoPlace (Fault45 file) → Summed file
+pub summed : (file : List ℕ) → FileSized file → NoPlace (Fault45 file) → Summed file
 summed file s none =
     record {
       sized = s;
@@ -54,8 +54,8 @@ module _ (file : List ℕ) (n : ℕ) (vertices : n ≡ verticesFiled file) (v r 
   pub owner-vertex : n ≤ v → (x : ℕ) → Fault2 (ownersFiled file) x → x < v
   owner-vertex l x f = omega (arith, f .vertex, owners-long file)
 
-  pub priority-top : v < n → r ≡ getD (prioritiesFiled file) v 0 → r ≡ 255 → Fault3 (verticesFiled file) (prioritiesFiled file) v
-  priority-top l e h = record { vertex = omega arith; top = sym e ∙ h }
+  pub priority-top : v < n → r ≡ getD (prioritiesFiled file) v 0 → r ≡ 255 → Fault3 (prioritiesFiled file) v
+  priority-top l e h = record { vertex = omega (arith, priorities-long file); top = sym e ∙ h }
 
   module _ (s : Summed file) where
     pub stuck-here : v < n → r ≡ countFiled file v → r ≡ 0 → Fault5 (verticesFiled file) (startsFiled file) (targetsFiled file) v

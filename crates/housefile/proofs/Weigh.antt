@@ -6,9 +6,9 @@ use native.Mathlib.Omega.{arith}
 use native.Mathlib.Nat.{mul-le-mul, add-comm}
 use native.Mathlib.Numerals.{add-one}
 use lib.ListN.{getD}
-use Rattle.housefile.specs.Format.{sumTo}
-use Rattle.housefile.specs.Filed.{byteAt}
-use Rattle.housefile.specs.Tests.{Weighed}
+use Rattle.housefile.specs.promise.Format.{sumTo}
+use Rattle.housefile.specs.promise.Filed.{byteAt}
+use Rattle.housefile.specs.parts.Tests.{Weighed}
 
 -- one term is at most 510 × 255
 pub term-small : (i b : ℕ) → i < 510 → b < 256 → (i + 1) * b ≤ 130050

@@ -1,5 +1,2 @@
-pub mod Format
-pub mod Filed
-pub mod Faults
-pub mod Reading
-pub mod Tests
+pub mod promise
+pub mod parts

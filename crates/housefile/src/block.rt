@@ -3,20 +3,21 @@ use crate::bytes::edges;
 use crate::bytes::rule;
 use crate::bytes::vertices;
 use crate::bytes::word;
-use crate::judged::Judged;
-use crate::judged::refused;
+use refusal::FileFault;
 use refusal::Found;
 use refusal::Kind;
+use refusal::Tested;
+use refusal::or;
 ghost use mathlib.Core.Path.{_≡_};
 ghost use Prim.Native.Nat.{_+_, _<_, _≤_, min};
 ghost use lib.ListN.{length};
-ghost use Rattle.refusal.specs.Found.{Finds};
-ghost use Rattle.refusal.specs.Row.{Gives};
-ghost use Rattle.housefile.specs.Format.{kindOf, usedOf, vertexBlocks, targetBlocks};
-ghost use Rattle.housefile.specs.Faults.{Fault42, Fault43, Fault44, blockRows};
-ghost use Rattle.housefile.specs.Tests.{Weighed, Present, Used, Stain, judgedSaid};
+ghost use Rattle.refusal.specs.parts.Found.{Finds, testedSaid};
+ghost use Rattle.refusal.specs.promise.Row.{Gives};
+ghost use Rattle.housefile.specs.promise.Format.{kindOf, usedOf, vertexBlocks, targetBlocks};
+ghost use Rattle.housefile.specs.promise.Faults.{Fault42, Fault43, Fault44, blockRows};
+ghost use Rattle.housefile.specs.parts.Tests.{Weighed, Present, Used, Stain};
 
-// The sum of (i + 1) × byte i over a block's bytes 0 to 509.
+// A block's bytes 0 to 509, weighted by their places from 1 on.
 fn weigh(file: &[u8], from: usize) -> usize
     requires { ⌜ from + 510 ≤ length (now file) ⌝ }
     ensures { λ r. ⌜ Weighed (now (file .entry)) from r ⌝ }
@@ -149,22 +150,16 @@ fn others(file: &[u8], b: usize) -> Found
     Found::Nowhere
 }
 
-// The rows of one block, in their order.
-pub fn block(file: &[u8], b: usize) -> Judged
+// The rows of one block, in their order. None of the tests needs another to have passed.
+pub fn block(file: &[u8], b: usize) -> Tested
     requires { ⌜ Present (now file) b ⌝ }
-    ensures { λ r. ⌜ Gives (blockRows (now (file .entry)) b) (judgedSaid r) ⌝ }
+    ensures { λ r. ⌜ Gives (blockRows (now (file .entry)) b) (testedSaid r) ⌝ }
 {
-    let check = check(file, b);
-    if let Found::At(p) = check {
-        return refused(Kind::BlockCheck, p);
-    }
-    let kind = kind(file, b);
-    if let Found::At(p) = kind {
-        return refused(Kind::BlockKind, p);
-    }
-    let others = others(file, b);
-    if let Found::At(p) = others {
-        return refused(Kind::BlockBytes, p);
-    }
-    Judged::Passed
+    let checked = or(
+        Tested::Passed,
+        check(file, b),
+        Kind::Filed(FileFault::Check),
+    );
+    let named = or(checked, kind(file, b), Kind::Filed(FileFault::Kind));
+    or(named, others(file, b), Kind::Filed(FileFault::Bytes))
 }

@@ -4,22 +4,24 @@ use crate::block::target_blocks;
 use crate::block::vertex_blocks;
 use crate::bytes::edges;
 use crate::bytes::vertices;
-use crate::judged::Judged;
-ghost use Rattle.refusal.specs.Row.{Gives};
-ghost use Rattle.housefile.specs.Tests.{Sized, turnRows, judgedSaid};
+use refusal::Tested;
+ghost use Rattle.refusal.specs.promise.Row.{Gives};
+ghost use Rattle.refusal.specs.parts.Found.{testedSaid};
+ghost use Rattle.housefile.specs.promise.Faults.{turnRows};
+ghost use Rattle.housefile.specs.parts.Tests.{FileSized};
 
-pub fn blocks(file: &[u8]) -> Judged
-    requires { ⌜ Sized (now file) ⌝ }
-    ensures { λ r. ⌜ Gives (turnRows (now (file .entry))) (judgedSaid r) ⌝ }
+pub fn blocks(file: &[u8]) -> Tested
+    requires { ⌜ FileSized (now file) ⌝ }
+    ensures { λ r. ⌜ Gives (turnRows (now (file .entry))) (testedSaid r) ⌝ }
 {
     let total = vertex_blocks(vertices(file)) + target_blocks(edges(file));
     let mut b = 0;
     while b < total {
-        let judged = block(file, 1 + b);
-        if let Judged::Refused(r) = judged {
-            return Judged::Refused(r);
+        let tested = block(file, 1 + b);
+        if let Tested::Refused(r) = tested {
+            return Tested::Refused(r);
         }
         b += 1;
     }
-    Judged::Passed
+    Tested::Passed
 }

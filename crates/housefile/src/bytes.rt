@@ -2,8 +2,8 @@
 ghost use mathlib.Core.Path.{_≡_};
 ghost use Prim.Native.Nat.{_+_, _<_, _≤_};
 ghost use lib.ListN.{length};
-ghost use Rattle.housefile.specs.Filed.{wordAt, verticesFiled, edgesFiled, ruleFiled};
-ghost use Rattle.housefile.specs.Tests.{Small};
+ghost use Rattle.housefile.specs.promise.Filed.{wordAt, verticesFiled, edgesFiled, ruleFiled};
+ghost use Rattle.housefile.specs.parts.Tests.{Small};
 
 // The low byte comes first.
 pub fn word(file: &[u8], at: usize) -> u16

@@ -4,16 +4,19 @@ use crate::block::target_blocks;
 use crate::block::vertex_blocks;
 use crate::bytes::edges;
 use crate::bytes::vertices;
-use crate::judged::Judged;
-use crate::judged::refused;
+use game::EDGES;
+use game::VERTICES;
+use refusal::FileFault;
 use refusal::Found;
 use refusal::Kind;
+use refusal::TableFault;
+use refusal::Tested;
+use refusal::or;
 ghost use Prim.Native.Nat.{_≤_};
 ghost use lib.ListN.{length};
-ghost use Rattle.refusal.specs.Found.{Finds};
-ghost use Rattle.refusal.specs.Row.{Gives};
-ghost use Rattle.housefile.specs.Faults.{Fault41Short, FaultSizes, Fault41Length, headRows};
-ghost use Rattle.housefile.specs.Tests.{judgedSaid};
+ghost use Rattle.refusal.specs.parts.Found.{Finds, testedSaid};
+ghost use Rattle.refusal.specs.promise.Row.{Gives};
+ghost use Rattle.housefile.specs.promise.Faults.{Fault41Short, FaultSizes, Fault41Length, headRows};
 
 // 41: under one block.
 fn short(file: &[u8]) -> Found
@@ -34,10 +37,10 @@ fn sizes(file: &[u8]) -> Found
     if n == 0 {
         return Found::At(0);
     }
-    if n > 2048 {
+    if n > VERTICES {
         return Found::At(0);
     }
-    if edges(file) > 16384 {
+    if edges(file) > EDGES {
         return Found::At(0);
     }
     Found::Nowhere
@@ -55,24 +58,14 @@ fn extent(file: &[u8]) -> Found
     Found::Nowhere
 }
 
-pub fn head(file: &[u8]) -> Judged
-    ensures { λ r. ⌜ Gives (headRows (now (file .entry))) (judgedSaid r) ⌝ }
+// The other tests read the header, so a file too short for one is refused first.
+pub fn head(file: &[u8]) -> Tested
+    ensures { λ r. ⌜ Gives (headRows (now (file .entry))) (testedSaid r) ⌝ }
 {
-    let short = short(file);
-    if let Found::At(p) = short {
-        return refused(Kind::FileLength, p);
+    let short = or(Tested::Passed, short(file), Kind::Filed(FileFault::Length));
+    if let Tested::Refused(r) = short {
+        return Tested::Refused(r);
     }
-    let first = block(file, 0);
-    if let Judged::Refused(r) = first {
-        return Judged::Refused(r);
-    }
-    let sizes = sizes(file);
-    if let Found::At(p) = sizes {
-        return refused(Kind::Sizes, p);
-    }
-    let extent = extent(file);
-    if let Found::At(p) = extent {
-        return refused(Kind::FileLength, p);
-    }
-    Judged::Passed
+    let sizes = or(block(file, 0), sizes(file), Kind::Game(TableFault::Sizes));
+    or(sizes, extent(file), Kind::Filed(FileFault::Length))
 }

@@ -3,7 +3,6 @@ mod block;
 mod blocks;
 mod bytes;
 mod head;
-mod judged;
 mod places;
 pub mod reader;
 mod values;

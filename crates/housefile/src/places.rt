@@ -6,8 +6,8 @@ ghost use mathlib.Core.Path.{_≡_};
 ghost use mathlib.Core.List.{[]};
 ghost use Prim.Native.Nat.{_<_};
 ghost use lib.ListN.{getD};
-ghost use Rattle.housefile.specs.Filed.{vertexPlace, countFiled, ownersFiled, prioritiesFiled, targetsFiled};
-ghost use Rattle.housefile.specs.Tests.{Sized, Vertex, Edge, firstTarget};
+ghost use Rattle.housefile.specs.promise.Filed.{vertexPlace, countFiled, ownersFiled, prioritiesFiled, targetsFiled};
+ghost use Rattle.housefile.specs.parts.Tests.{FileSized, VertexPlace, EdgePlace, firstTarget};
 
 fn vertex_place(v: usize) -> usize
     requires { ⌜ v < 2048 ⌝ }
@@ -17,21 +17,21 @@ fn vertex_place(v: usize) -> usize
 }
 
 pub fn owner(file: &[u8], v: usize) -> u8
-    requires { ⌜ Vertex (now file) v ⌝ }
+    requires { ⌜ VertexPlace (now file) v ⌝ }
     ensures { λ r. ⌜ r ≡ getD (ownersFiled (now (file .entry))) v 0 ⌝ }
 {
     file[vertex_place(v)]
 }
 
 pub fn priority(file: &[u8], v: usize) -> u8
-    requires { ⌜ Vertex (now file) v ⌝ }
+    requires { ⌜ VertexPlace (now file) v ⌝ }
     ensures { λ r. ⌜ r ≡ getD (prioritiesFiled (now (file .entry))) v 0 ⌝ }
 {
     file[vertex_place(v) + 1]
 }
 
 pub fn count(file: &[u8], v: usize) -> u16
-    requires { ⌜ Vertex (now file) v ⌝ }
+    requires { ⌜ VertexPlace (now file) v ⌝ }
     ensures { λ r. ⌜ r ≡ countFiled (now (file .entry)) v ⌝ }
 {
     word(file, vertex_place(v) + 2)
@@ -39,14 +39,14 @@ pub fn count(file: &[u8], v: usize) -> u16
 
 // The first block of targets.
 pub fn first_target(file: &[u8]) -> usize
-    requires { ⌜ Sized (now file) ⌝ }
+    requires { ⌜ FileSized (now file) ⌝ }
     ensures { λ r. ⌜ r ≡ firstTarget (now (file .entry)) ⌝ }
 {
     1 + vertex_blocks(vertices(file))
 }
 
 pub fn target(file: &[u8], first: usize, e: usize) -> u16
-    requires { ⌜ Edge (now file) first e ⌝ }
+    requires { ⌜ EdgePlace (now file) first e ⌝ }
     ensures { λ r. ⌜ r ≡ getD (targetsFiled (now (file .entry))) e 0 ⌝ }
 {
     word(file, 512 * (first + e / 252) + 6 + 2 * (e % 252))

@@ -4,36 +4,31 @@ use crate::Read;
 use crate::blocks;
 use crate::bytes;
 use crate::head;
-use crate::judged::Judged;
 use crate::values;
 use crate::write;
+use game::EDGES;
+use game::VERTICES;
+use game::buffers::compare;
 use refusal::Found;
 use refusal::Kind;
-use refusal::Refusal;
-ghost use Rattle.refusal.specs.Found.{Finds};
-ghost use Rattle.housefile.specs.Faults.{Fault8};
-ghost use Rattle.housefile.specs.Reading.{Reads, readSaid};
+use refusal::Tested;
+use refusal::or;
+ghost use Rattle.refusal.specs.parts.Found.{Finds};
+ghost use Rattle.game.specs.promise.Lent.{Fault8, lent, written};
+ghost use Rattle.housefile.specs.promise.Faults.{tableSizes};
+ghost use Rattle.housefile.specs.promise.Reading.{Reads, readSaid};
 
 // 8: the lengths of the lent tables.
 fn lengths(owners: &[u8], priorities: &[u8], starts: &[u16], targets: &[u16]) -> Found
-    ensures { λ r. ⌜ Finds (Fault8 (now (owners .entry)) (now (priorities .entry)) (now (starts .entry)) (now (targets .entry))) r ⌝ }
+    ensures { λ r. ⌜ Finds (Fault8 (tableSizes (lent owners priorities starts targets))) r ⌝ }
 {
-    if owners.len() != 2048 {
-        return Found::At(0);
-    }
-    if priorities.len() != 2048 {
-        return Found::At(0);
-    }
-    if starts.len() != 2049 {
-        return Found::At(0);
-    }
-    if targets.len() != 16384 {
-        return Found::At(0);
-    }
-    Found::Nowhere
+    let edges = compare(Found::Nowhere, targets.len(), EDGES);
+    let bounds = compare(edges, starts.len(), 2049);
+    let ranks = compare(bounds, priorities.len(), VERTICES);
+    compare(ranks, owners.len(), VERTICES)
 }
 
-// The tables are written only once every refusal is excluded.
+// The blocks are read only once the header has passed, the values only once the blocks have. The tables are written only once every refusal is excluded.
 pub fn read(
     file: &[u8],
     owners: &mut [u8],
@@ -41,26 +36,21 @@ pub fn read(
     starts: &mut [u16],
     targets: &mut [u16],
 ) -> Read
-    ensures { λ r. ⌜ Reads (now (file .entry)) (now (owners .entry)) (now (priorities .entry)) (now (starts .entry)) (now (targets .entry)) (now (owners .exit)) (now (priorities .exit)) (now (starts .exit)) (now (targets .exit)) (readSaid r) ⌝ }
+    ensures { λ r. ⌜ Reads (now (file .entry)) (lent owners priorities starts targets) (written owners priorities starts targets) (readSaid r) ⌝ }
 {
     let head = head::head(file);
-    if let Judged::Refused(r) = head {
+    if let Tested::Refused(r) = head {
         return Read::Refused(r);
     }
     let blocks = blocks::blocks(file);
-    if let Judged::Refused(r) = blocks {
+    if let Tested::Refused(r) = blocks {
         return Read::Refused(r);
     }
     let filed = values::filed(file);
-    if let Judged::Refused(r) = filed {
-        return Read::Refused(r);
-    }
     let lengths = lengths(owners, priorities, starts, targets);
-    if let Found::At(place) = lengths {
-        return Read::Refused(Refusal {
-            kind: Kind::Buffer,
-            place,
-        });
+    let tested = or(filed, lengths, Kind::Buffer);
+    if let Tested::Refused(r) = tested {
+        return Read::Refused(r);
     }
     write::owners(file, owners);
     write::priorities(file, priorities);

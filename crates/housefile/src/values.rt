@@ -1,26 +1,29 @@
 // The values as filed: 45, then 2, 3, 5, 6, 7.
 use crate::bytes::edges;
 use crate::bytes::vertices;
-use crate::judged::Judged;
-use crate::judged::refused;
 use crate::places::count;
 use crate::places::first_target;
 use crate::places::owner;
 use crate::places::priority;
 use crate::places::target;
+use player::Player;
+use refusal::FileFault;
 use refusal::Found;
 use refusal::Kind;
+use refusal::TableFault;
+use refusal::Tested;
+use refusal::or;
 ghost use lib.ListN.{take, drop};
-ghost use Rattle.refusal.specs.Found.{Finds};
-ghost use Rattle.refusal.specs.Row.{Gives};
-ghost use Rattle.game.specs.Faults.{Fault2, Fault3, Fault5, Fault6, Fault7, Descent};
-ghost use Rattle.housefile.specs.Filed.{verticesFiled, ownersFiled, prioritiesFiled, startsFiled, targetsFiled};
-ghost use Rattle.housefile.specs.Faults.{Fault45, filedRows};
-ghost use Rattle.housefile.specs.Tests.{Sized, Summed, Span, Totals, judgedSaid};
+ghost use Rattle.refusal.specs.parts.Found.{Finds, testedSaid};
+ghost use Rattle.refusal.specs.promise.Row.{Gives};
+ghost use Rattle.game.specs.promise.Faults.{Fault2, Fault3, Fault5, Fault6, Fault7, Descent};
+ghost use Rattle.housefile.specs.promise.Filed.{verticesFiled, ownersFiled, prioritiesFiled, startsFiled, targetsFiled};
+ghost use Rattle.housefile.specs.promise.Faults.{Fault45, filedRows};
+ghost use Rattle.housefile.specs.parts.Tests.{FileSized, Summed, Span, Totals};
 
 // The sum of all successor counts.
 fn total(file: &[u8]) -> usize
-    requires { ⌜ Sized (now file) ⌝ }
+    requires { ⌜ FileSized (now file) ⌝ }
     ensures { λ r. ⌜ Totals (now (file .entry)) r ⌝ }
 {
     let n = vertices(file);
@@ -35,7 +38,7 @@ fn total(file: &[u8]) -> usize
 
 // 45: the successor counts against the number of edges.
 fn counts(file: &[u8]) -> Found
-    requires { ⌜ Sized (now file) ⌝ }
+    requires { ⌜ FileSized (now file) ⌝ }
     ensures { λ r. ⌜ Finds (Fault45 (now (file .entry))) r ⌝ }
 {
     if total(file) != edges(file) {
@@ -46,13 +49,13 @@ fn counts(file: &[u8]) -> Found
 
 // 2: an owner that is no player.
 fn owners(file: &[u8]) -> Found
-    requires { ⌜ Sized (now file) ⌝ }
+    requires { ⌜ FileSized (now file) ⌝ }
     ensures { λ r. ⌜ Finds (Fault2 (ownersFiled (now (file .entry)))) r ⌝ }
 {
     let n = vertices(file);
     let mut v = 0;
     while v < n {
-        if owner(file, v) > 1 {
+        if owner(file, v) > Player::ODD.bit {
             return Found::At(v);
         }
         v += 1;
@@ -62,8 +65,8 @@ fn owners(file: &[u8]) -> Found
 
 // 3: a priority of 255.
 fn priorities(file: &[u8]) -> Found
-    requires { ⌜ Sized (now file) ⌝ }
-    ensures { λ r. ⌜ Finds (Fault3 (verticesFiled (now (file .entry))) (prioritiesFiled (now (file .entry)))) r ⌝ }
+    requires { ⌜ FileSized (now file) ⌝ }
+    ensures { λ r. ⌜ Finds (Fault3 (prioritiesFiled (now (file .entry)))) r ⌝ }
 {
     let n = vertices(file);
     let mut v = 0;
@@ -94,7 +97,7 @@ fn stuck(file: &[u8]) -> Found
 
 // 6: a target that is no vertex.
 fn outside(file: &[u8]) -> Found
-    requires { ⌜ Sized (now file) ⌝ }
+    requires { ⌜ FileSized (now file) ⌝ }
     ensures { λ r. ⌜ Finds (Fault6 (verticesFiled (now (file .entry))) (targetsFiled (now (file .entry)))) r ⌝ }
 {
     let n = vertices(file);
@@ -125,7 +128,7 @@ fn descent(file: &[u8], first: usize, from: usize, long: usize) -> Found
     Found::Nowhere
 }
 
-// 7: a target that is not above the one before it in the same vertex.
+// 7: a stretch that does not ascend.
 fn order(file: &[u8]) -> Found
     requires { ⌜ Summed (now file) ⌝ }
     ensures { λ r. ⌜ Finds (Fault7 (verticesFiled (now (file .entry))) (startsFiled (now (file .entry))) (targetsFiled (now (file .entry)))) r ⌝ }
@@ -146,34 +149,18 @@ fn order(file: &[u8]) -> Found
     Found::Nowhere
 }
 
-// The rows of the values, in their order.
-pub fn filed(file: &[u8]) -> Judged
-    requires { ⌜ Sized (now file) ⌝ }
-    ensures { λ r. ⌜ Gives (filedRows (now (file .entry))) (judgedSaid r) ⌝ }
+// The rows of the values, in their order. 5 and 7 read stretches, so the counts come first.
+pub fn filed(file: &[u8]) -> Tested
+    requires { ⌜ FileSized (now file) ⌝ }
+    ensures { λ r. ⌜ Gives (filedRows (now (file .entry))) (testedSaid r) ⌝ }
 {
-    let counts = counts(file);
-    if let Found::At(p) = counts {
-        return refused(Kind::EdgeCount, p);
+    let summed = or(Tested::Passed, counts(file), Kind::Filed(FileFault::Edges));
+    if let Tested::Refused(r) = summed {
+        return Tested::Refused(r);
     }
-    let owners = owners(file);
-    if let Found::At(p) = owners {
-        return refused(Kind::Owner, p);
-    }
-    let priorities = priorities(file);
-    if let Found::At(p) = priorities {
-        return refused(Kind::Priority, p);
-    }
-    let stuck = stuck(file);
-    if let Found::At(p) = stuck {
-        return refused(Kind::Stuck, p);
-    }
-    let outside = outside(file);
-    if let Found::At(p) = outside {
-        return refused(Kind::Target, p);
-    }
-    let order = order(file);
-    if let Found::At(p) = order {
-        return refused(Kind::Order, p);
-    }
-    Judged::Passed
+    let two = or(summed, owners(file), Kind::Game(TableFault::Owner));
+    let three = or(two, priorities(file), Kind::Game(TableFault::Priority));
+    let five = or(three, stuck(file), Kind::Game(TableFault::Stuck));
+    let six = or(five, outside(file), Kind::Game(TableFault::Target));
+    or(six, order(file), Kind::Game(TableFault::Order))
 }

@@ -7,15 +7,17 @@ use crate::places::first_target;
 use crate::places::owner;
 use crate::places::priority;
 use crate::places::target;
+use game::EDGES;
+use game::VERTICES;
 ghost use mathlib.Core.Path.{_≡_};
 ghost use lib.ListN.{length, getD};
-ghost use Rattle.housefile.specs.Format.{turnedOf, highestOf};
-ghost use Rattle.housefile.specs.Filed.{verticesFiled, ruleFiled, ownersFiled, prioritiesFiled, startsFiled, targetsFiled};
-ghost use Rattle.housefile.specs.Reading.{Holds};
-ghost use Rattle.housefile.specs.Tests.{Sized, Summed, Tops, Lent, CountAt, StartAt, TargetAt};
+ghost use Rattle.housefile.specs.promise.Format.{turnedOf, highestOf};
+ghost use Rattle.housefile.specs.promise.Filed.{verticesFiled, ruleFiled, ownersFiled, prioritiesFiled, startsFiled, targetsFiled};
+ghost use Rattle.housefile.specs.promise.Reading.{Padded};
+ghost use Rattle.housefile.specs.parts.Tests.{FileSized, Summed, Tops, LentTable, CountAt, StartAt, TargetAt};
 
 fn owner_or_zero(file: &[u8], n: usize, v: usize) -> u8
-    requires { ⌜ Sized (now file) × (n ≡ verticesFiled (now file)) ⌝ }
+    requires { ⌜ FileSized (now file) × (n ≡ verticesFiled (now file)) ⌝ }
     ensures { λ r. ⌜ r ≡ getD (ownersFiled (now (file .entry))) v 0 ⌝ }
 {
     if v < n {
@@ -25,12 +27,12 @@ fn owner_or_zero(file: &[u8], n: usize, v: usize) -> u8
 }
 
 pub fn owners(file: &[u8], table: &mut [u8])
-    requires { ⌜ Lent (now file) 2048 (now table) ⌝ }
-    ensures { λ _. ⌜ Holds 2048 (ownersFiled (now (file .entry))) (now (table .exit)) ⌝ }
+    requires { ⌜ LentTable (now file) 2048 (now table) ⌝ }
+    ensures { λ _. ⌜ Padded 2048 (ownersFiled (now (file .entry))) (now (table .exit)) ⌝ }
 {
     let n = vertices(file);
     let mut v = 0;
-    while v < 2048 {
+    while v < VERTICES {
         table[v] = owner_or_zero(file, n, v);
         v += 1;
     }
@@ -38,7 +40,7 @@ pub fn owners(file: &[u8], table: &mut [u8])
 
 // The highest priority in the file.
 fn highest(file: &[u8], n: usize) -> u8
-    requires { ⌜ Sized (now file) × (n ≡ verticesFiled (now file)) ⌝ }
+    requires { ⌜ FileSized (now file) × (n ≡ verticesFiled (now file)) ⌝ }
     ensures { λ r. ⌜ r ≡ highestOf (prioritiesFiled (now (file .entry))) ⌝ }
 {
     let mut top: u8 = 0;
@@ -68,20 +70,20 @@ fn turned_or_zero(file: &[u8], n: usize, top: u8, v: usize) -> u8
 }
 
 pub fn priorities(file: &[u8], table: &mut [u8])
-    requires { ⌜ Lent (now file) 2048 (now table) ⌝ }
-    ensures { λ _. ⌜ Holds 2048 (turnedOf (ruleFiled (now (file .entry))) (prioritiesFiled (now (file .entry)))) (now (table .exit)) ⌝ }
+    requires { ⌜ LentTable (now file) 2048 (now table) ⌝ }
+    ensures { λ _. ⌜ Padded 2048 (turnedOf (ruleFiled (now (file .entry))) (prioritiesFiled (now (file .entry)))) (now (table .exit)) ⌝ }
 {
     let n = vertices(file);
     let top = highest(file, n);
     let mut v = 0;
-    while v < 2048 {
+    while v < VERTICES {
         table[v] = turned_or_zero(file, n, top, v);
         v += 1;
     }
 }
 
 fn count_or_zero(file: &[u8], n: usize, v: usize) -> u16
-    requires { ⌜ Sized (now file) × (n ≡ verticesFiled (now file)) ⌝ }
+    requires { ⌜ FileSized (now file) × (n ≡ verticesFiled (now file)) ⌝ }
     ensures { λ r. ⌜ CountAt (now (file .entry)) v r ⌝ }
 {
     if v < n {
@@ -101,7 +103,7 @@ fn start_or_zero(n: usize, v: usize, sum: u16) -> u16
 
 pub fn starts(file: &[u8], table: &mut [u16])
     requires { ⌜ Summed (now file) × (length (now table) ≡ 2049) ⌝ }
-    ensures { λ _. ⌜ Holds 2049 (startsFiled (now (file .entry))) (now (table .exit)) ⌝ }
+    ensures { λ _. ⌜ Padded 2049 (startsFiled (now (file .entry))) (now (table .exit)) ⌝ }
 {
     let n = vertices(file);
     let mut sum: u16 = 0;
@@ -124,13 +126,13 @@ fn target_or_zero(file: &[u8], m: usize, first: usize, e: usize) -> u16
 }
 
 pub fn targets(file: &[u8], table: &mut [u16])
-    requires { ⌜ Lent (now file) 16384 (now table) ⌝ }
-    ensures { λ _. ⌜ Holds 16384 (targetsFiled (now (file .entry))) (now (table .exit)) ⌝ }
+    requires { ⌜ LentTable (now file) 16384 (now table) ⌝ }
+    ensures { λ _. ⌜ Padded 16384 (targetsFiled (now (file .entry))) (now (table .exit)) ⌝ }
 {
     let m = edges(file);
     let first = first_target(file);
     let mut e = 0;
-    while e < 16384 {
+    while e < EDGES {
         table[e] = target_or_zero(file, m, first, e);
         e += 1;
     }

@@ -4,9 +4,9 @@ use mathlib.Core.Path.{_≡_, refl, _∙_}
 use mathlib.Core.Logic.{_≢_, ite, if-pos, if-neg}
 use native.Mathlib.Decide.{ℕ-discrete}
 use native.Mathlib.Omega.{arith}
-use Rattle.player.specs.Player.{parityOf, opponentOf}
-use Rattle.game.specs.Game.{Game}
-use Rattle.justification.specs.Step.{Kept, Turned}
+use Rattle.player.specs.promise.Player.{parityOf, opponentOf}
+use Rattle.game.specs.promise.Game.{Game}
+use Rattle.justification.specs.parts.Step.{Kept, Turned}
 
 -- f with x at v
 unfoldable pub put : ℕ → ℕ → (ℕ → ℕ) → ℕ → ℕ

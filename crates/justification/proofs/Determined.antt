@@ -5,12 +5,13 @@ use mathlib.Core.Logic.{_≢_, _⊎_, inl, inr, ⊎-elim, Dec·not, Dec·not-not
 use native.Mathlib.Decide.{ℕ-discrete}
 use native.Mathlib.Nat.{not-suc-le-zero, lt-suc-self}
 use native.Mathlib.Omega.{arith}
-use Rattle.player.specs.Player.{IsPlayer, parityOf, opponentOf, parity-player}
-use Rattle.game.specs.Game.{Game}
-use Rattle.winning.specs.Walk.{Walk}
-use Rattle.winning.specs.Answer.{Accepted}
-use Rattle.justification.specs.Safe.{Support, Safe, Done, Eligible}
-use Rattle.justification.specs.Measure.{measure}
+use Rattle.player.specs.promise.Player.{IsPlayer, parityOf, opponentOf}
+use Rattle.player.proofs.Players.{parity-player}
+use Rattle.game.specs.promise.Game.{Game}
+use Rattle.winning.specs.promise.Walk.{Walk}
+use Rattle.winning.specs.promise.Faults.{Accepted}
+use Rattle.justification.specs.parts.Safe.{Support, Safe, Done, Eligible}
+use Rattle.justification.specs.parts.Measure.{measure}
 use Rattle.justification.proofs.Eligible.{least-eligible}
 use Rattle.justification.proofs.KeepStep.{keeps}
 use Rattle.justification.proofs.TurnStep.{turns}

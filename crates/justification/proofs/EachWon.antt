@@ -1,9 +1,9 @@
--- "It must be shown that each vertex is won by exactly one player."
+-- Every vertex has a winner, and one only.
 use Prim.Native.Nat.{ℕ, _<_}
 use mathlib.Core.Path.{_≡_}
-use Rattle.player.specs.Player.{IsPlayer}
-use Rattle.game.specs.Game.{Game, Sound, Moving}
-use Rattle.winning.specs.Wins.{Wins}
+use Rattle.player.specs.promise.Player.{IsPlayer}
+use Rattle.game.specs.promise.Game.{Game, Sound, Moving}
+use Rattle.winning.specs.promise.Wins.{Wins}
 use Rattle.winning.proofs.Accepted.{accepted-right}
 use Rattle.winning.proofs.Won.{accepted-won}
 use Rattle.winning.proofs.NobodyTwice.{same-winner}

@@ -3,10 +3,10 @@ use Prim.Native.Nat.{ℕ, _<_, _≤_}
 use mathlib.Core.Path.{_≡_, sym, _∙_}
 use mathlib.Core.Logic.{_≢_}
 use native.Mathlib.Nat.{le-refl, le-trans}
-use Rattle.game.specs.Game.{Game}
-use Rattle.winning.specs.Walk.{Walk, stay, step}
-use Rattle.justification.specs.Safe.{Support, Safe, Above, Onward, Eligible}
-use Rattle.justification.specs.Step.{Settled}
+use Rattle.game.specs.promise.Game.{Game}
+use Rattle.winning.specs.promise.Walk.{Walk, stay, step}
+use Rattle.justification.specs.parts.Safe.{Support, Safe, Above, Onward, Eligible}
+use Rattle.justification.specs.parts.Step.{Settled}
 use Rattle.justification.proofs.Lines.{within}
 
 module _ (g : Game) (mark move settled : ℕ → ℕ) where

@@ -7,12 +7,13 @@ use lib.Dec.{eqb}
 use borrow.Author.Tests.{eq-eqb, ne-eqb}
 use native.Mathlib.Nat.{le-of-eq, one-le-pow, pow-succ', pow-le-pow-right, mul-le-mul-right, mul-zero, zero-mul, add-mul, add-zero, eq-or-lt-of-le}
 use native.Mathlib.Omega.{arith}
-use Rattle.player.specs.Player.{parityOf, opponent-other, parity-player}
-use Rattle.game.specs.Game.{Game}
-use Rattle.winning.specs.Walk.{Walk}
-use Rattle.justification.specs.Safe.{Support, Safe}
-use Rattle.justification.specs.Step.{Same, Kept, Leaning, Turned}
-use Rattle.justification.specs.Measure.{weightBy, measure}
+use Rattle.player.specs.promise.Player.{parityOf}
+use Rattle.player.proofs.Players.{opponent-other, parity-player}
+use Rattle.game.specs.promise.Game.{Game}
+use Rattle.winning.specs.promise.Walk.{Walk}
+use Rattle.justification.specs.parts.Safe.{Support, Safe}
+use Rattle.justification.specs.parts.Step.{Same, Kept, Leaning, Turned}
+use Rattle.justification.specs.parts.Measure.{weightBy, measure}
 use Rattle.justification.proofs.Lines.{steady-walk}
 use Rattle.justification.proofs.Sums.{falls}
 

@@ -1,12 +1,12 @@
 -- When nothing is open, a safe state is an accepted answer.
 use Prim.Native.Nat.{ℕ}
 use mathlib.Core.Path.{sym}
-use Rattle.refusal.specs.Row.{NoPlace}
-use Rattle.game.specs.Game.{Game}
-use Rattle.winning.specs.Walk.{map-walk}
-use Rattle.winning.specs.Answer.{Recorded, Fault12, own, other, Fault13, Fault14, Accepted}
+use Rattle.refusal.specs.promise.Row.{NoPlace}
+use Rattle.game.specs.promise.Game.{Game}
+use Rattle.winning.proofs.Walks.{map-walk}
+use Rattle.winning.specs.promise.Faults.{Recorded, Fault12, own, other, Fault13, Fault14, Accepted}
 use Rattle.winning.proofs.Cycles.{round-of}
-use Rattle.justification.specs.Safe.{Support, Safe, Done}
+use Rattle.justification.specs.parts.Safe.{Support, Safe, Done}
 
 module _ (g : Game) (mark move settled : ℕ → ℕ) (safe : Safe g mark move settled) (done : Done g mark move settled) where
   -- where all is settled, a recorded step is a support step

@@ -3,12 +3,14 @@ use Prim.Native.Nat.{ℕ, _<_, _≤_}
 use mathlib.Core.Path.{_≡_, sym, ap, _∙_}
 use mathlib.Core.Logic.{_≢_, ⊎-elim}
 use native.Mathlib.Nat.{le-antisymm}
-use Rattle.player.specs.Player.{parityOf, parity-player}
-use Rattle.game.specs.Game.{Game}
-use Rattle.winning.specs.Walk.{Walk, step, map-walk}
-use Rattle.winning.specs.Cycle.{Low}
-use Rattle.justification.specs.Safe.{Support, Safe, Eligible}
-use Rattle.justification.specs.Step.{Tested, Kept}
+use Rattle.player.specs.promise.Player.{parityOf}
+use Rattle.player.proofs.Players.{parity-player}
+use Rattle.game.specs.promise.Game.{Game}
+use Rattle.winning.specs.promise.Walk.{Walk, step}
+use Rattle.winning.proofs.Walks.{map-walk}
+use Rattle.winning.specs.parts.Low.{Low}
+use Rattle.justification.specs.parts.Safe.{Support, Safe, Eligible}
+use Rattle.justification.specs.parts.Step.{TestGives, Kept}
 use Rattle.justification.proofs.Walks.{upto}
 use Rattle.justification.proofs.Cases.{at-or-else}
 use Rattle.justification.proofs.Lines.{Line, safe-of, steady, steady-walk, settled-line, settled-step, same-line}
@@ -18,7 +20,7 @@ use Rattle.justification.proofs.Levels.{kept-step, kept-above}
 module _
     (g : Game) (mark move settled mark′ move′ settled′ : ℕ → ℕ) (v m : ℕ)
     (safe : Safe g mark move settled) (eligible : Eligible g mark move settled v (parityOf (g .priority v)) m)
-    (tested : Tested g mark v (parityOf (g .priority v)) m)
+    (tested : TestGives g mark v (parityOf (g .priority v)) m)
     (kept : Kept mark move settled mark′ move′ settled′ g v m)
   where
     abbrev Old : ℕ → ℕ → Type 0

@@ -2,14 +2,14 @@
 use Prim.Native.Nat.{ℕ}
 use mathlib.Core.Bool.{Bool, _&&_}
 use lib.Dec.{eqb}
-use Rattle.game.specs.Game.{Game}
-use Rattle.winning.specs.Walk.{Walk, stay, step}
-use Rattle.winning.specs.Verdict.{isRecorded}
+use Rattle.game.specs.promise.Game.{Game}
+use Rattle.winning.specs.promise.Walk.{Walk, stay, step}
+use Rattle.winning.specs.parts.Verdict.{isRecorded}
 use Rattle.winning.proofs.Reflect.{Tests, tests-dec, tests-map, tests-and, tests-eq}
 use Rattle.winning.proofs.Verdict.{tests-recorded}
 use Rattle.winning.proofs.Reachable.{walk-tests}
-use Rattle.justification.specs.Safe.{Support}
-use Rattle.justification.specs.Step.{Leaning}
+use Rattle.justification.specs.parts.Safe.{Support}
+use Rattle.justification.specs.parts.Step.{Leaning}
 
 module _ (g : Game) (mark move settled : ℕ → ℕ) where
   -- whether a support step leads from v to w: v is settled, and w follows it by the recorded moves

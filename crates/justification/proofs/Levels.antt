@@ -4,10 +4,10 @@ use mathlib.Core.Path.{_≡_, sym, _∙_}
 use mathlib.Core.Logic.{_≢_, ⊎-elim}
 use native.Mathlib.Nat.{le-trans}
 use native.Mathlib.Omega.{arith}
-use Rattle.player.specs.Player.{parityOf, opponentOf}
-use Rattle.game.specs.Game.{Game}
-use Rattle.justification.specs.Safe.{Support, Safe, Above, Onward, Eligible, Levelled}
-use Rattle.justification.specs.Step.{Tested, Kept, Leaning, Turned}
+use Rattle.player.specs.promise.Player.{parityOf, opponentOf}
+use Rattle.game.specs.promise.Game.{Game}
+use Rattle.justification.specs.parts.Safe.{Support, Safe, Above, Onward, Eligible, Levelled}
+use Rattle.justification.specs.parts.Step.{TestGives, Kept, Leaning, Turned}
 use Rattle.justification.proofs.Walks.{upto}
 use Rattle.justification.proofs.Cases.{at-or-else}
 use Rattle.justification.proofs.Lines.{within, steady-walk, settled-step, same-step}
@@ -64,7 +64,7 @@ module _
 module _
     (g : Game) (mark move settled mark′ move′ settled′ : ℕ → ℕ) (R : ℕ → Type 0) (v m : ℕ)
     (safe : Safe g mark move settled) (eligible : Eligible g mark move settled v (opponentOf (parityOf (g .priority v))) m)
-    (tested : Tested g mark v (opponentOf (parityOf (g .priority v))) m)
+    (tested : TestGives g mark v (opponentOf (parityOf (g .priority v))) m)
     (leaning : Leaning g mark move settled v R)
     (turned : Turned mark move settled mark′ move′ settled′ g R v m)
   where

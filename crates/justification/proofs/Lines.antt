@@ -3,13 +3,15 @@ use Prim.Native.Nat.{ℕ, _<_, _≤_}
 use mathlib.Core.Path.{_≡_, refl, sym, ap, subst, _∙_}
 use mathlib.Core.Logic.{_≢_}
 use native.Mathlib.Decide.{ℕ-discrete}
-use Rattle.player.specs.Player.{IsPlayer, parityOf, parity-player}
-use Rattle.game.specs.Game.{Game, Edge}
-use Rattle.winning.specs.Walk.{Walk, follow}
-use Rattle.winning.specs.Cycle.{Low}
-use Rattle.winning.specs.Answer.{noMove}
-use Rattle.justification.specs.Safe.{Support, Safe}
-use Rattle.justification.specs.Step.{Tested, Settled, Same}
+use Rattle.player.specs.promise.Player.{IsPlayer, parityOf}
+use Rattle.player.proofs.Players.{parity-player}
+use Rattle.game.specs.promise.Game.{Game, Edge}
+use Rattle.winning.specs.promise.Walk.{Walk}
+use Rattle.winning.proofs.Walks.{follow}
+use Rattle.winning.specs.parts.Low.{Low}
+use Rattle.winning.specs.promise.Answer.{noMove}
+use Rattle.justification.specs.parts.Safe.{Support, Safe}
+use Rattle.justification.specs.parts.Step.{TestGives, Settled, Same}
 
 module _ (g : Game) (mark move settled : ℕ → ℕ) where
   -- what the invariants ask of u's line alone
@@ -67,7 +69,7 @@ module _ (g : Game) (mark move settled : ℕ → ℕ) where
 
 module _ (g : Game) (mark move settled mark′ move′ settled′ : ℕ → ℕ) where
   -- v's new line is the test's result
-  module _ {v p m : ℕ} (t : Tested g mark v p m) (s : Settled mark move settled mark′ move′ settled′ v p m) where
+  module _ {v p m : ℕ} (t : TestGives g mark v p m) (s : Settled mark move settled mark′ move′ settled′ v p m) where
     pub settled-line : IsPlayer p → Line g mark′ move′ settled′ v
     settled-line l =
         record {

@@ -3,12 +3,13 @@ use Prim.Native.Nat.{ℕ, _<_, _≤_}
 use mathlib.Core.Path.{_≡_, sym, subst, _∙_}
 use mathlib.Core.Logic.{_≢_}
 use native.Mathlib.Nat.{le-refl}
-use Rattle.player.specs.Player.{parityOf}
-use Rattle.game.specs.Game.{Game}
-use Rattle.winning.specs.Walk.{Walk, stay, step, follow}
-use Rattle.winning.specs.Cycle.{Low}
-use Rattle.justification.specs.Safe.{Support, Safe, Above, Levelled}
-use Rattle.justification.specs.Step.{Same, Turned, Downward, Leaning}
+use Rattle.player.specs.promise.Player.{parityOf}
+use Rattle.game.specs.promise.Game.{Game}
+use Rattle.winning.specs.promise.Walk.{Walk, stay, step}
+use Rattle.winning.proofs.Walks.{follow}
+use Rattle.winning.specs.parts.Low.{Low}
+use Rattle.justification.specs.parts.Safe.{Support, Safe, Above, Levelled}
+use Rattle.justification.specs.parts.Step.{Same, Turned, Downward, Leaning}
 use Rattle.justification.proofs.Walks.{carry}
 use Rattle.justification.proofs.Lines.{Line, safe-of, within, steady, same-line, same-step}
 

@@ -1,8 +1,8 @@
 -- Opening again a set that holds whatever leans on what it holds keeps the invariants, and what is known of the rest.
 use Prim.Native.Nat.{ℕ, _<_}
-use Rattle.game.specs.Game.{Game}
-use Rattle.justification.specs.Safe.{Safe, Above}
-use Rattle.justification.specs.Step.{Reset, Downward}
+use Rattle.game.specs.promise.Game.{Game}
+use Rattle.justification.specs.parts.Safe.{Safe, Above}
+use Rattle.justification.specs.parts.Step.{Reset, Downward}
 use Rattle.justification.proofs.Lines.{open-line}
 use Rattle.justification.proofs.Outside.{outside-above, outside-safe}
 

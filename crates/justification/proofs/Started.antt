@@ -3,16 +3,17 @@ use Prim.Native.Nat.{ℕ, _<_, _≤_}
 use mathlib.Core.Path.{_≡_, sym, ap, subst, _∙_}
 use mathlib.Core.Logic.{_≢_, Dec·not-not}
 use native.Mathlib.Decide.{ℕ-discrete}
-use Rattle.player.specs.Player.{parityOf}
-use Rattle.game.specs.Game.{Game, Listed, Edge}
-use Rattle.winning.specs.Walk.{Walk, follow}
-use Rattle.winning.specs.Cycle.{Low}
-use Rattle.winning.specs.Answer.{Recorded, Accepted}
+use Rattle.player.specs.promise.Player.{parityOf}
+use Rattle.game.specs.promise.Game.{Game, Listed, Edge}
+use Rattle.winning.specs.promise.Walk.{Walk}
+use Rattle.winning.proofs.Walks.{follow}
+use Rattle.winning.specs.parts.Low.{Low}
+use Rattle.winning.specs.promise.Faults.{Recorded, Accepted}
 use Rattle.winning.proofs.Cycles.{cycle-of}
 use Rattle.winning.proofs.Backed.{Backed, recorded-keeps}
 use Rattle.winning.proofs.Accepted.{accepted-backed}
-use Rattle.justification.specs.Safe.{Support, Safe}
-use Rattle.justification.specs.Start.{Agree, Closed, Start}
+use Rattle.justification.specs.parts.Safe.{Support, Safe}
+use Rattle.justification.specs.parts.Start.{SameAt, Closed, Start}
 use Rattle.justification.proofs.Walks.{carry}
 use Rattle.justification.proofs.Lines.{Line, open-line, safe-of, within}
 use Rattle.justification.proofs.Eligible.{open-above}
@@ -37,7 +38,7 @@ same-edge {w} size next e =
 module _
     (g h : Game) (K : ℕ → Type 0) (old-mark old-move mark move settled : ℕ → ℕ)
     (size : g .n ≡ h .n) (decided : (v : ℕ) → v < h .n → Dec (K v)) (closed : Closed h K)
-    (agree : (v : ℕ) → v < h .n → K v → Agree g h v) (accepted : Accepted g old-mark old-move)
+    (agree : (v : ℕ) → v < h .n → K v → SameAt g h v) (accepted : Accepted g old-mark old-move)
     (start : Start h K old-mark old-move mark move settled)
   where
     was : Backed g old-mark old-move

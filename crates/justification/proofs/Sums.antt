@@ -5,7 +5,7 @@ use mathlib.Core.Logic.{_≢_}
 use native.Mathlib.Decide.{ℕ-discrete}
 use native.Mathlib.Nat.{suc-mul}
 use native.Mathlib.Omega.{arith}
-use Rattle.justification.specs.Measure.{sum}
+use Rattle.justification.specs.parts.Measure.{sum}
 
 module _ (f f′ : ℕ → ℕ) (k : ℕ) where
   -- each term gains at most k

@@ -4,17 +4,18 @@ use mathlib.Core.Path.{_≡_, refl, sym, _∙_}
 use mathlib.Core.Logic.{_⊎_, inl, inr, ⊎-swap, Dec·and, _≢_}
 use native.Mathlib.Decide.{ℕ-discrete}
 use native.Mathlib.Omega.{arith}
-use Rattle.player.specs.Player.{IsPlayer, opponentOf, opponent-other, opponent-player, opponent-involution}
-use Rattle.game.specs.Game.{Game, Edge}
-use Rattle.winning.specs.Answer.{noMove}
+use Rattle.player.specs.promise.Player.{IsPlayer, opponentOf}
+use Rattle.player.proofs.Players.{opponent-other, opponent-player, opponent-involution}
+use Rattle.game.specs.promise.Game.{Game, Edge}
+use Rattle.winning.specs.promise.Answer.{noMove}
 use Rattle.winning.proofs.Edges.{decide-edge}
-use Rattle.justification.specs.Step.{Tested}
+use Rattle.justification.specs.parts.Step.{TestGives}
 use Rattle.justification.proofs.Search.{search-least}
 
 module _ (g : Game) (mark : ℕ → ℕ) (player : (w : ℕ) → w < g .n → IsPlayer (mark w)) (v : ℕ) where
   -- the test gives p, with some move
   abbrev pub Gives : ℕ → Type 0
-  Gives p = (m : ℕ) × Tested g mark v p m
+  Gives p = (m : ℕ) × TestGives g mark v p m
 
   -- the owner wins if some successor has his mark, else all have the other's
   by-owner : (p : ℕ) → IsPlayer p → g .owner v ≡ p → Gives p ⊎ Gives (opponentOf p)

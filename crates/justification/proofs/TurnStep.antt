@@ -1,10 +1,11 @@
 -- Turning an eligible vertex to the opponent, and reopening what leans on it, keeps the invariants.
 use Prim.Native.Nat.{ℕ, _<_}
 use mathlib.Core.Path.{sym, _∙_}
-use Rattle.player.specs.Player.{parityOf, opponentOf, opponent-player}
-use Rattle.game.specs.Game.{Game}
-use Rattle.justification.specs.Safe.{Support, Safe, Eligible}
-use Rattle.justification.specs.Step.{Tested, Leaning, Turned}
+use Rattle.player.specs.promise.Player.{parityOf, opponentOf}
+use Rattle.player.proofs.Players.{opponent-player}
+use Rattle.game.specs.promise.Game.{Game}
+use Rattle.justification.specs.parts.Safe.{Support, Safe, Eligible}
+use Rattle.justification.specs.parts.Step.{TestGives, Leaning, Turned}
 use Rattle.justification.proofs.Cases.{at-or-else}
 use Rattle.justification.proofs.Lines.{Line, open-line, settled-line, settled-step}
 use Rattle.justification.proofs.Eligible.{settled-onward}
@@ -14,7 +15,7 @@ use Rattle.justification.proofs.Levels.{turned-out}
 module _
     (g : Game) (mark move settled mark′ move′ settled′ : ℕ → ℕ) (R : ℕ → Type 0) (v m : ℕ)
     (safe : Safe g mark move settled) (eligible : Eligible g mark move settled v (opponentOf (parityOf (g .priority v))) m)
-    (tested : Tested g mark v (opponentOf (parityOf (g .priority v))) m)
+    (tested : TestGives g mark v (opponentOf (parityOf (g .priority v))) m)
     (leaning : Leaning g mark move settled v R)
     (turned : Turned mark move settled mark′ move′ settled′ g R v m)
   where

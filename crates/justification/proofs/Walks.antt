@@ -3,7 +3,7 @@ use Prim.Native.Nat.{ℕ}
 use mathlib.Core.Path.{_≡_, subst}
 use mathlib.Core.Logic.{_⊎_, inl, inr, _≢_, ⊎-elim}
 use native.Mathlib.Decide.{ℕ-discrete}
-use Rattle.winning.specs.Walk.{Walk, stay, step}
+use Rattle.winning.specs.promise.Walk.{Walk, stay, step}
 
 -- by a property that holds at the start and that every step keeps
 pub carry : {S T : ℕ → ℕ → Type 0} {v u : ℕ} (P : ℕ → Type 0) → ((x y : ℕ) → S x y → P x → T x y × P y) → P v → Walk S v u → Walk T v u

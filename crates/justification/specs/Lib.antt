@@ -1,4 +1,1 @@
-pub mod Safe
-pub mod Step
-pub mod Measure
-pub mod Start
+pub mod parts

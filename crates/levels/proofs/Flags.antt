@@ -5,9 +5,9 @@ use mathlib.Core.Logic.{_≢_}
 use mathlib.Core.List.{List}
 use native.Mathlib.Omega.{arith}
 use lib.ListN.{length, getD}
-use Rattle.reach.specs.Work.{section}
+use Rattle.reach.specs.parts.Work.{section}
 use Rattle.reach.proofs.Sections.{section-read}
-use Rattle.levels.specs.Levels.{settledOf}
+use Rattle.levels.specs.parts.Levels.{settledOf}
 
 pub flag-settled : (n : ℕ) (work : List ℕ) (u : ℕ) → getD (section 0 n work) u 0 ≡ 0 → settledOf n work u ≡ 1
 unfolding settledOf

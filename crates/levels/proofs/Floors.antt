@@ -8,10 +8,10 @@ use native.Mathlib.Omega.{arith}
 use native.Mathlib.Nat.{not-suc-le-zero}
 use lib.ListN.{length, getD, set, length-set}
 use lib.Seq.{getD-set-same, getD-set-other}
-use Rattle.game.specs.Game.{Game}
-use Rattle.justification.specs.Safe.{Safe, Above, Levelled}
+use Rattle.game.specs.promise.Game.{Game}
+use Rattle.justification.specs.parts.Safe.{Safe, Above, Levelled}
 use Rattle.justification.proofs.Eligible.{open-above, safe-above}
-use Rattle.levels.specs.Levels.{settledOf, levelOf, LevelSet, Seen, FloorOf, ByPriority}
+use Rattle.levels.specs.parts.Levels.{settledOf, levelOf, LevelSet, Seen, FloorOf, ByPriority}
 use Rattle.levels.proofs.Flags.{cell-settled, cell-open}
 
 pub level-set : {levels : List ℕ} {v x : ℕ} → v < length levels → LevelSet levels (set levels v x) v x

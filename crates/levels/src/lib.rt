@@ -1,7 +1,7 @@
 // Levels: for each settled vertex a priority below which its support leads to no open vertex.
 ghost use Prim.Native.Nat.{_<_};
 ghost use lib.ListN.{length};
-ghost use Rattle.levels.specs.Levels.{LevelSet, Seen, FloorOf, Room, ByPriority};
+ghost use Rattle.levels.specs.parts.Levels.{LevelSet, Seen, FloorOf, LevelRoom, ByPriority};
 
 pub fn set_level(levels: &mut [u16], v: usize, level: u16)
     requires { ⌜ v < length (now levels) ⌝ }
@@ -23,7 +23,7 @@ pub fn floor(t: usize, priorities: &[u8], levels: &[u16], work: &[u16]) -> u16
 
 // Every vertex's level is its priority, which is right in every safe state.
 pub fn by_priority(priorities: &[u8], levels: &mut [u16])
-    requires { ⌜ Room (now priorities) (now levels) ⌝ }
+    requires { ⌜ LevelRoom (now priorities) (now levels) ⌝ }
     ensures { λ _. ⌜ ByPriority (now (priorities .entry)) (now (levels .entry)) (now (levels .exit)) ⌝ }
 {
     let mut v = 0;

@@ -8,7 +8,7 @@ use native.Mathlib.Nat.{pow-le-pow-right}
 use borrow.Author.Tests.{le-leb, lt-leb, eq-eqb, ne-eqb}
 use lib.ListN.{length, length-append}
 use Rattle.io.specs.Digits.{glyph, digits, Fewest}
-use Rattle.listing.specs.Text.{reaches, widthOf, decimalOf, dash, moveField}
+use Rattle.listing.specs.promise.Text.{reaches, widthOf, decimalOf, dash, moveField}
 
 pub reaches-yes : (k n : ℕ) → k ≤ n → reaches k n ≡ 1
 reaches-yes k n l = ap (λ (b : Bool). cond b 1 0) (le-leb k n l)

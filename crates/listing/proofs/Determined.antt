@@ -1,67 +1,70 @@
--- No second listing of a file but for moves: a refusal has one text, and a game one winner of each vertex.
+-- No second listing of a file but for moves: a refusal has one text, and a game one winner of each vertex and its dashes.
 use Prim.Native.Nat.{ℕ, _<_}
 use mathlib.Core.Path.{_≡_, sym, ap, subst, _∙_}
-use mathlib.Core.Logic.{inl, inr}
-use mathlib.Core.List.{List, [], _∷_, _++_}
-use lib.ListN.{getD, replicate, length-replicate}
-use Rattle.refusal.specs.Row.{Row, refused, None, none-append, none-left, none-right, first-unique, first-not-none}
-use Rattle.game.specs.Answer.{markOf, moveOf}
-use Rattle.game.specs.Tables.{WellFormed}
-use Rattle.winning.proofs.NobodyTwice.{accepted-same}
-use Rattle.housefile.specs.Filed.{verticesFiled, ownersFiled, startsFiled, targetsFiled}
-use Rattle.housefile.specs.Faults.{Fault8, headRows, filedRows, judgedRows, fileRows}
-use Rattle.housefile.specs.Tests.{turnRows}
-use Rattle.housefile.proofs.AllRows.{Fixed, none-of-fixed}
-use Rattle.housefile.proofs.Accepted.{read-well-formed}
+use mathlib.Core.Logic.{_↔_, inl, inr}
+use mathlib.Core.List.{List, _++_}
+use native.Mathlib.Omega.{arith}
+use native.Mathlib.Decide.{ℕ-discrete}
+use lib.ListN.{getD}
+use Rattle.refusal.specs.promise.Row.{refused}
+use Rattle.refusal.proofs.Rows.{first-unique, first-not-none}
+use Rattle.game.specs.promise.Tables.{Tables, vertices, gameOf, WellFormed}
+use Rattle.game.specs.promise.Answer.{Answer, markOf, moveOf}
+use Rattle.winning.specs.promise.Answer.{noMove}
+use Rattle.winning.proofs.Solutions.{solutions-same}
+use Rattle.solver.specs.promise.Solving.{IsSolution}
+use Rattle.housefile.specs.promise.Filed.{verticesFiled, edgesFiled, tablesFiled}
+use Rattle.housefile.specs.promise.Faults.{judgedRows}
+use Rattle.housefile.proofs.Accepted.{judged-well-formed}
 use Rattle.housefile.proofs.Lists.{owners-long}
-use Rattle.listing.specs.Text.{refusedLine}
-use Rattle.listing.specs.Listing.{turnedFiled, gameFiled, Lists}
+use Rattle.listing.specs.promise.Text.{gameLine, refusedLine}
+use Rattle.listing.specs.promise.Listing.{Lists, Agree}
+use Rattle.listing.proofs.Alike.{Alike, alike-itself, lines-alike}
 
--- the tables that the program lends the reader have the right lengths
-lent : Fixed (replicate 2048 0) (replicate 2048 0) (replicate 2049 0) (replicate 16384 0)
-lent =
-    record {
-      owners-2048 = length-replicate {A = ℕ} 2048 0;
-      priorities-2048 = length-replicate {A = ℕ} 2048 0;
-      starts-2049 = length-replicate {A = ℕ} 2049 0;
-      targets-16384 = length-replicate {A = ℕ} 16384 0;
-    }
+-- two solutions of a well-formed game
+module _ (t : Tables) (w : WellFormed t) (a b : Answer) (x : IsSolution t a) (y : IsSolution t b) where
+  marks : (v : ℕ) → v < vertices t → markOf (a .winners) v ≡ markOf (b .winners) v
+  marks = solutions-same (gameOf t) (w .sound) (w .moving) (markOf (a .winners)) (moveOf (a .moves)) (markOf (b .winners)) (moveOf (b .moves)) x y
 
--- the row of those lengths
-abbrev eight : List Row
-eight = record { number = 8; applies = Fault8 (replicate 2048 0) (replicate 2048 0) (replicate 2049 0) (replicate 16384 0) } ∷ []
+  winners-alike : Alike (vertices t) (b .winners) (a .winners)
+  unfolding markOf
+  winners-alike = record { same = λ v l. sym (marks v l) }
 
-module _ (file : List ℕ) (bytes : (i : ℕ) → getD file i 0 < 256) where
-  -- 8 does not apply to those tables, so a file that no row of its own refuses is read
-  judged-none : None (judgedRows file) → None (fileRows file (replicate 2048 0) (replicate 2048 0) (replicate 2049 0) (replicate 16384 0))
-  judged-none n =
-      none-append (headRows file) (turnRows file ++ (filedRows file ++ eight)) (none-left (headRows file) (turnRows file ++ filedRows file) n)
-      (none-append (turnRows file) (filedRows file ++ eight) (none-left (turnRows file) (filedRows file) after)
-      (none-append (filedRows file) eight (none-right (turnRows file) (filedRows file) after) (none-of-fixed _ _ _ _ lent, tt)))
-    where
-      after : None (turnRows file ++ filedRows file)
-      after = none-right (headRows file) (turnRows file ++ filedRows file) n
+  -- where the winner owns, a move is a vertex; elsewhere it is none
+  dashes : (v : ℕ) → v < vertices t → (getD (a .moves) v 0 ≡ noMove) ↔ (getD (b .moves) v 0 ≡ noMove)
+  unfolding markOf moveOf
+  dashes v l =
+      elim (ℕ-discrete (getD (t .owners) v 0) (getD (a .winners) v 0)) [
+        | yes e ↦
+            let p = x .form .successor v l e .to in
+            let q = y .form .successor v l (e ∙ marks v l) .to in
+            (λ z. absurd (omega (arith, p, w .sound .few)), λ z. absurd (omega (arith, q, w .sound .few)))
+        | no e ↦ (λ z. y .form .elsewhere v l (λ o. e (o ∙ sym (marks v l))), λ z. x .form .elsewhere v l e)
+      ]
 
-  game-well-formed : None (judgedRows file) → WellFormed (ownersFiled file) (turnedFiled file) (startsFiled file) (targetsFiled file)
-  game-well-formed n = read-well-formed file _ _ _ _ bytes (judged-none n)
-
-  -- two listings agree: the same text of a refusal, or the same winner of each vertex
-  abbrev pub Agree : {a b : List ℕ} → Lists file a → Lists file b → Type 0
-  Agree (inl x) (inl y) = (v : ℕ) → v < verticesFiled file → markOf (x .winners) v ≡ markOf (y .winners) v
-  Agree (inl x) (inr y) = ⊥
-  Agree (inr x) (inl y) = ⊥
-  Agree {a} {b} (inr x) (inr y) = a ≡ b
-
-  pub lists-agree : {a b : List ℕ} (x : Lists file a) (y : Lists file b) → Agree x y
-  lists-agree (inl x) (inl y) =
-      λ v l.
-      let w = game-well-formed (x .none) in
-      accepted-same (gameFiled file) (markOf (x .winners)) (moveOf (x .moves)) (markOf (y .winners)) (moveOf (y .moves)) (w .sound) (w .moving) (x .accepted) (y .accepted) v
-      (subst (λ (n : ℕ). v < n) (sym (owners-long file)) l)
-  lists-agree (inl x) (inr y) = first-not-none (judgedRows file) (y .number) (y .place) (y .first) (x .none)
-  lists-agree (inr x) (inl y) = first-not-none (judgedRows file) (x .number) (x .place) (x .first) (y .none)
-  lists-agree (inr x) (inr y) =
-      let e : refused (x .number) (x .place) ≡ refused (y .number) (y .place) = first-unique (judgedRows file) (x .number) (y .number) (x .place) (y .place) (x .first) (y .first) in
-      let k : x .number ≡ y .number = cc in
-      let p : x .place ≡ y .place = cc in
-      x .is ∙ ap (λ (i : ℕ). refusedLine i (x .place)) k ∙ ap (refusedLine (y .number)) p ∙ sym (y .is)
+pub lists-agree : (file : List ℕ) → ((i : ℕ) → getD file i 0 < 256) → {a b : List ℕ} → Lists file a → Lists file b → Agree a b
+lists-agree file bytes (inl x) (inl y) =
+    let w = judged-well-formed file bytes (x .none) in
+    inr
+    (record {
+      n = verticesFiled file;
+      m = edgesFiled file;
+      tables = tablesFiled file;
+      winners = x .answer .winners;
+      moves = x .answer .moves;
+      moves′ = y .answer .moves;
+      one = x .is;
+      other =
+          y .is ∙
+          ap (λ (l : List ℕ). gameLine (verticesFiled file) (edgesFiled file) ++ l)
+          (lines-alike (verticesFiled file) alike-itself alike-itself
+          (subst (λ (n : ℕ). Alike n (y .answer .winners) (x .answer .winners)) (owners-long file) (winners-alike _ w (x .answer) (y .answer) (x .solution) (y .solution))) alike-itself);
+      dashes = λ v l. dashes _ w (x .answer) (y .answer) (x .solution) (y .solution) v (subst (λ (n : ℕ). v < n) (sym (owners-long file)) l);
+    })
+lists-agree file bytes (inl x) (inr y) = absurd (first-not-none (judgedRows file) (y .number) (y .place) (y .first) (x .none))
+lists-agree file bytes (inr x) (inl y) = absurd (first-not-none (judgedRows file) (x .number) (x .place) (x .first) (y .none))
+lists-agree file bytes (inr x) (inr y) =
+    let e : refused (x .number) (x .place) ≡ refused (y .number) (y .place) = first-unique (judgedRows file) (x .number) (y .number) (x .place) (y .place) (x .first) (y .first) in
+    let k : x .number ≡ y .number = cc in
+    let p : x .place ≡ y .place = cc in
+    inl (x .is ∙ ap (λ (i : ℕ). refusedLine i (x .place)) k ∙ ap (refusedLine (y .number)) p ∙ sym (y .is))

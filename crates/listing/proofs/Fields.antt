@@ -2,9 +2,9 @@
 use Prim.Native.Nat.{ℕ}
 use mathlib.Core.Path.{_≡_, sym}
 use mathlib.Core.List.{List, [], _∷_, _++_, append-assoc}
-use Rattle.listing.specs.Append.{Room, Appended, appended-both, room-first, room-second}
-use Rattle.listing.specs.Text.{decimalOf, lineOf}
-use Rattle.listing.proofs.Appending.{room-as, appended-as}
+use Rattle.listing.specs.parts.Append.{Room, Appended}
+use Rattle.listing.specs.promise.Text.{decimalOf, lineOf}
+use Rattle.listing.proofs.Appending.{appended-both, room-first, room-second, room-as, appended-as}
 
 module _ (f : List ℕ) (s : ℕ) (rest : List ℕ) where
   apart : (f ++ (s ∷ [])) ++ rest ≡ f ++ (s ∷ rest)

@@ -1,49 +1,53 @@
 -- What was read: its tables hold the file's game, and its listing is the file's; what was refused, and the line of the refusal.
 use Prim.Native.Nat.{ℕ, _+_, _<_, _≤_}
-use mathlib.Core.Path.{_≡_, sym, ap, ap₂, subst, subst₂, _∙_}
+use mathlib.Core.Path.{_≡_, sym, ap, ap₂, subst, _∙_}
 use mathlib.Core.Logic.{inl, inr}
-use mathlib.Core.List.{List, [], _∷_, _++_}
+use mathlib.Core.List.{List, [], _∷_}
 use native.Mathlib.Omega.{arith}
 use lib.ListN.{length, getD, take}
 use lib.Seq.{length-take-le, getD-take, ext-getD}
-use Rattle.refusal.specs.Number.{numberOf}
-use Rattle.refusal.specs.Row.{First}
+use Rattle.refusal.specs.promise.Number.{numberOf}
+use Rattle.refusal.specs.promise.Row.{row, First}
 use Rattle.refusal.specs.declared.Refusal.{Refusal}
-use Rattle.game.specs.Tables.{WellFormed}
+use Rattle.refusal.proofs.Rows.{first-front}
+use Rattle.game.specs.promise.Tables.{Tables, tablesOf, WellFormed}
+use Rattle.game.specs.promise.Lent.{Fit, Fault8}
+use Rattle.game.proofs.Sizes.{none-of-fit}
 use Rattle.housefile.specs.declared.Header.{Header}
 use Rattle.housefile.specs.declared.Read.{Read}
 use Rattle.housefile.specs.declared.Read.the-variants.{Game, Refused}
-use Rattle.housefile.specs.Filed.{verticesFiled, edgesFiled, ruleFiled, ownersFiled, prioritiesFiled, startsFiled, targetsFiled}
-use Rattle.housefile.specs.Faults.{judgedRows}
-use Rattle.housefile.specs.Reading.{Holds, Taken, readSaid, Reads}
-use Rattle.housefile.proofs.AllRows.{Fixed}
+use Rattle.housefile.specs.promise.Filed.{verticesFiled, edgesFiled, ruleFiled, prioritiesFiled, tablesFiled}
+use Rattle.housefile.specs.promise.Faults.{judgedRows, tableSizes}
+use Rattle.housefile.specs.promise.Reading.{Padded, Taken, readSaid, Reads}
+use Rattle.housefile.proofs.AllRows.{all-judged}
 use Rattle.housefile.proofs.Lists.{owners-long, priorities-long, starts-long, targets-long}
 use Rattle.housefile.proofs.Turning.{turned-long}
 use Rattle.housefile.proofs.Accepted.{read-well-formed}
-use Rattle.listing.specs.Text.{gameLine, refusedLine, vertexLines}
-use Rattle.listing.specs.Listing.{turnedFiled, Lists}
-use Rattle.listing.specs.Append.{Room, Appended}
-use Rattle.listing.specs.Answering.{Tabled, AnswerListed}
+use Rattle.listing.specs.promise.Text.{refusedLine}
+use Rattle.listing.specs.promise.Listing.{gameText, SetDown}
+use Rattle.listing.specs.parts.Append.{Room, Appended}
+use Rattle.listing.specs.parts.Answering.{frontOf, Tabled, AnswerListed}
+use Rattle.listing.proofs.Appending.{appended-within}
 use Rattle.listing.proofs.Widths.{refused-line-most}
-use Rattle.listing.proofs.Judging.{none-judged, first-judged, printable}
+use Rattle.listing.proofs.Judging.{printable}
 
 -- the used part of a table that holds a list is the list
-used : (size : ℕ) (list table : List ℕ) (k : ℕ) → Holds size list table → length list ≡ k → k ≤ size → take k table ≡ list
+used : (size : ℕ) (list table : List ℕ) (k : ℕ) → Padded size list table → length list ≡ k → k ≤ size → take k table ≡ list
 used size list table k h e l =
     let long : length (take k table) ≡ k = length-take-le k table (omega (arith, h .long)) in
     ext-getD 0 (take k table) list (long ∙ sym e) (λ i m. getD-take k table i 0 (omega arith) ∙ h .same i)
 
-module _ (file owners priorities starts targets owners′ priorities′ starts′ targets′ : List ℕ) (bytes : (i : ℕ) → getD file i 0 < 256) where
+module _ (file : List ℕ) (before after : Tables) (bytes : (i : ℕ) → getD file i 0 < 256) where
   -- the case of success
-  module _ (h : Header) (t : Taken file owners priorities starts targets owners′ priorities′ starts′ targets′ (h .vertices ∷ h .edges ∷ [])) where
+  module _ (h : Header) (d : Taken file before after (h .vertices ∷ h .edges ∷ [])) where
     n-is : h .vertices ≡ verticesFiled file
-    n-is = ap (λ (l : List ℕ). getD l 0 0) (t .values-are)
+    n-is = ap (λ (l : List ℕ). getD l 0 0) (d .values-are)
 
     m-is : h .edges ≡ edgesFiled file
-    m-is = ap (λ (l : List ℕ). getD l 1 0) (t .values-are)
+    m-is = ap (λ (l : List ℕ). getD l 1 0) (d .values-are)
 
-    well : WellFormed (ownersFiled file) (turnedFiled file) (startsFiled file) (targetsFiled file)
-    well = read-well-formed file owners priorities starts targets bytes (t .none)
+    well : WellFormed (tablesFiled file)
+    well = read-well-formed file before bytes (d .none)
 
     few : h .vertices ≤ 2048
     few = omega (arith, n-is, owners-long file, well .sound .few)
@@ -51,60 +55,57 @@ module _ (file owners priorities starts targets owners′ priorities′ starts�
     edges-few : h .edges ≤ 16384
     edges-few = omega (arith, m-is, targets-long file, well .edges)
 
-    owners-are : take (h .vertices) owners′ ≡ ownersFiled file
-    owners-are = used 2048 _ owners′ (h .vertices) (t .owners-hold) (owners-long file ∙ sym n-is) few
+    front-is : frontOf (h .vertices) (h .edges) after ≡ tablesFiled file
+    front-is =
+        let o = used 2048 _ (after .owners) (h .vertices) (d .holds .owners) (owners-long file ∙ sym n-is) few in
+        let p = used 2048 _ (after .priorities) (h .vertices) (d .holds .priorities) (turned-long (ruleFiled file) (prioritiesFiled file) ∙ priorities-long file ∙ sym n-is) few in
+        let s = used 2049 _ (after .starts) (h .vertices + 1) (d .holds .starts) (starts-long file ∙ ap (λ (k : ℕ). k + 1) (sym n-is)) (omega (arith, few)) in
+        let e = used 16384 _ (after .targets) (h .edges) (d .holds .targets) (targets-long file ∙ sym m-is) edges-few in
+        λ i. tablesOf (o i) (p i) (s i) (e i)
 
-    priorities-are : take (h .vertices) priorities′ ≡ turnedFiled file
-    priorities-are = used 2048 _ priorities′ (h .vertices) (t .priorities-hold) (turned-long (ruleFiled file) (prioritiesFiled file) ∙ priorities-long file ∙ sym n-is) few
-
-    starts-are : take (h .vertices + 1) starts′ ≡ startsFiled file
-    starts-are = used 2049 _ starts′ (h .vertices + 1) (t .starts-hold) (starts-long file ∙ ap (λ (k : ℕ). k + 1) (sym n-is)) (omega (arith, few))
-
-    targets-are : take (h .edges) targets′ ≡ targetsFiled file
-    targets-are = used 16384 _ targets′ (h .edges) (t .targets-hold) (targets-long file ∙ sym m-is) edges-few
-
-    tabled : Tabled (h .vertices) (h .edges) owners′ priorities′ starts′ targets′
+    tabled : Tabled (h .vertices) (h .edges) after
     tabled =
         record {
-          owners-long = omega (arith, few, t .owners-hold .long);
-          priorities-long = omega (arith, few, t .priorities-hold .long);
-          starts-long = omega (arith, few, t .starts-hold .long);
-          targets-long = omega (arith, edges-few, t .targets-hold .long);
-          well-formed =
-              subst₂ (λ (o p : List ℕ). WellFormed o p (take (h .vertices + 1) starts′) (take (h .edges) targets′)) (sym owners-are) (sym priorities-are)
-              (subst₂ (λ (s u : List ℕ). WellFormed (ownersFiled file) (turnedFiled file) s u) (sym starts-are) (sym targets-are) well);
+          owners-long = omega (arith, few, d .holds .owners .long);
+          priorities-long = omega (arith, few, d .holds .priorities .long);
+          starts-long = omega (arith, few, d .holds .starts .long);
+          targets-long = omega (arith, edges-few, d .holds .targets .long);
+          well-formed = subst (λ (t : Tables). WellFormed t) (sym front-is) well;
         }
 
-    game-lists : (text : List ℕ) → AnswerListed (take (h .vertices) owners′) (take (h .vertices) priorities′) (take (h .vertices + 1) starts′) (take (h .edges) targets′) text → Lists file text
-    game-lists text a =
-        let b : AnswerListed (ownersFiled file) (turnedFiled file) (startsFiled file) (targetsFiled file) text =
-        subst₂ (λ (o p : List ℕ). AnswerListed o p (startsFiled file) (targetsFiled file) text) owners-are priorities-are
-        (subst₂ (λ (s u : List ℕ). AnswerListed (take (h .vertices) owners′) (take (h .vertices) priorities′) s u text) starts-are targets-are a)
-        in
-        inl
-        (record {
-          winners = b .winners;
-          moves = b .moves;
-          none = none-judged file owners priorities starts targets (t .none);
-          accepted = b .accepted;
-          is = b .is ∙ ap₂ (λ (n m : ℕ). gameLine n m ++ vertexLines (ownersFiled file) (turnedFiled file) (b .winners) (b .moves) n) (owners-long file) (targets-long file);
-        })
+    game-set-down : {text text′ : List ℕ} {r : ℕ} → AnswerListed (frontOf (h .vertices) (h .edges) after) text text′ r → SetDown file text text′ r
+    game-set-down {text} {text′} {r} a =
+        let b : AnswerListed (tablesFiled file) text text′ r = subst (λ (t : Tables). AnswerListed t text text′ r) front-is a in
+        record {
+          within = b .within;
+          lists =
+              inl
+              (record {
+                answer = b .answer;
+                none = all-judged file before (d .none);
+                solution = b .solution;
+                is = b .done .is ∙ ap₂ (λ (n m : ℕ). gameText n m (tablesFiled file) (b .answer)) (owners-long file) (targets-long file);
+              });
+          past = b .done .past;
+        }
 
-  module _ (said : Read) (r : Reads file owners priorities starts targets owners′ priorities′ starts′ targets′ (readSaid said)) where
+  module _ (said : Read) (r : Reads file before after (readSaid said)) where
     -- by what the reader says
 
-    abbrev taken : (h : Header) → said ≡ Game h → Taken file owners priorities starts targets owners′ priorities′ starts′ targets′ (h .vertices ∷ h .edges ∷ [])
-    taken h e = subst (λ (x : Read). Reads file owners priorities starts targets owners′ priorities′ starts′ targets′ (readSaid x)) e r
+    abbrev taken : (h : Header) → said ≡ Game h → Taken file before after (h .vertices ∷ h .edges ∷ [])
+    taken h e = subst (λ (x : Read). Reads file before after (readSaid x)) e r
 
-    pub read-tabled : (h : Header) → said ≡ Game h → Tabled (h .vertices) (h .edges) owners′ priorities′ starts′ targets′
+    pub read-tabled : (h : Header) → said ≡ Game h → Tabled (h .vertices) (h .edges) after
     read-tabled h e = tabled h (taken h e)
 
-    pub read-lists : (h : Header) (text : List ℕ) → said ≡ Game h → AnswerListed (take (h .vertices) owners′) (take (h .vertices) priorities′) (take (h .vertices + 1) starts′) (take (h .edges) targets′) text → Lists file text
-    read-lists h text e a = game-lists h (taken h e) text a
+    pub read-set-down : {text text′ : List ℕ} {k : ℕ} (h : Header) → said ≡ Game h → AnswerListed (frontOf (h .vertices) (h .edges) after) text text′ k → SetDown file text text′ k
+    read-set-down h e a = game-set-down h (taken h e) a
 
-    module _ (f : Refusal) (fixed : Fixed owners priorities starts targets) (e : said ≡ Refused f) where
+    module _ (f : Refusal) (fit : Fit (tableSizes before)) (e : said ≡ Refused f) where
       first : First (judgedRows file) (numberOf (f .kind)) (f .place)
-      first = first-judged file owners priorities starts targets (numberOf (f .kind)) (f .place) fixed (subst (λ (x : Read). Reads file owners priorities starts targets owners′ priorities′ starts′ targets′ (readSaid x)) e r .first)
+      first =
+          first-front (judgedRows file) (row 8 (Fault8 (tableSizes before)) ∷ []) (numberOf (f .kind)) (f .place) (none-of-fit (tableSizes before) fit, tt)
+          (subst (λ (x : Read). Reads file before after (readSaid x)) e r .first)
 
       module _ (short : length file ≤ 43520) (text : List ℕ) (long : length text ≡ 36880) where
         pub refused-room : Room text 0 (refusedLine (numberOf (f .kind)) (f .place)) × (numberOf (f .kind) < 100000) × (f .place < 100000)
@@ -115,8 +116,10 @@ module _ (file owners priorities starts targets owners′ priorities′ starts�
               omega (arith, p .place-low),
             )
 
-        pub refused-lists : {text′ : List ℕ} {n : ℕ} → Appended text text′ 0 (refusedLine (numberOf (f .kind)) (f .place)) n → (n ≤ length text′) × Lists file (take n text′)
-        refused-lists a = (
-          omega (arith, refused-room .0 .room, a .ends, a .long),
-          inr (record { number = numberOf (f .kind); place = f .place; first = first; is = a .is }),
-        )
+        pub refused-set-down : {text′ : List ℕ} {n : ℕ} → Appended text text′ 0 (refusedLine (numberOf (f .kind)) (f .place)) n → SetDown file text text′ n
+        refused-set-down a =
+            record {
+              within = appended-within _ (refused-room .0) a;
+              lists = inr (record { number = numberOf (f .kind); place = f .place; first = first; is = a .is });
+              past = a .past;
+            }

@@ -1,16 +1,16 @@
--- The rows that judge a file: those of the reader without the last, whose place is small enough to be printed.
+-- The rows that judge a file: their numbers and places are small enough to be printed.
 use Prim.Native.Nat.{ℕ, zero, suc, _+_, _-_, _/_, _<_, _≤_}
 use mathlib.Core.Path.{_≡_, sym, subst}
 use mathlib.Core.Logic.{inl, inr}
 use mathlib.Core.List.{List, [], _∷_, _++_}
 use native.Mathlib.Omega.{arith}
 use lib.ListN.{length, getD, length-take, length-drop}
-use Rattle.refusal.specs.Row.{Row, None, First, none-append, first-front, first-after}
-use Rattle.game.specs.Faults.{Fault7}
-use Rattle.game.specs.Tables.{nextOf}
-use Rattle.housefile.specs.Format.{vertexBlocks, targetBlocks}
-use Rattle.housefile.specs.Filed.{verticesFiled, edgesFiled, startsFiled, targetsFiled}
-use Rattle.housefile.specs.Faults.{
+use Rattle.refusal.specs.promise.Row.{Row, row, First}
+use Rattle.game.specs.promise.Faults.{Fault7}
+use Rattle.game.specs.promise.Tables.{nextOf}
+use Rattle.housefile.specs.promise.Format.{vertexBlocks, targetBlocks}
+use Rattle.housefile.specs.promise.Filed.{verticesFiled, edgesFiled, startsFiled, targetsFiled}
+use Rattle.housefile.specs.promise.Faults.{
   Fault43,
   number,
   kind,
@@ -24,46 +24,29 @@ use Rattle.housefile.specs.Faults.{
   over-2048,
   over-16384,
   Fault41Length,
-  Fault8,
   blockRows,
   blocksRows,
   headRows,
+  turnRows,
   filedRows,
-  valueRows,
-  fileRows,
   judgedRows,
 }
-use Rattle.housefile.specs.Tests.{turnRows}
-use Rattle.housefile.proofs.AllRows.{Fixed, none-of-fixed, all-head, all-turn, all-filed}
-use Rattle.housefile.proofs.Lists.{owners-long, targets-long}
-
-module _ (file owners priorities starts targets : List ℕ) where
-  pub none-judged : None (fileRows file owners priorities starts targets) → None (judgedRows file)
-  none-judged n =
-      none-append (headRows file) (turnRows file ++ filedRows file) (all-head file owners priorities starts targets n)
-      (none-append (turnRows file) (filedRows file) (all-turn file owners priorities starts targets n) (all-filed file owners priorities starts targets n))
-
-  pub first-judged : (k x : ℕ) → Fixed owners priorities starts targets → First (fileRows file owners priorities starts targets) k x → First (judgedRows file) k x
-  first-judged k x fixed f =
-      first-after (headRows file) (turnRows file ++ valueRows file owners priorities starts targets) (turnRows file ++ filedRows file) k x
-      (first-after (turnRows file) (valueRows file owners priorities starts targets) (filedRows file) k x
-      (first-front (filedRows file) (record { number = 8; applies = Fault8 owners priorities starts targets } ∷ []) k x (none-of-fixed owners priorities starts targets fixed, tt)))
-      f
+use Rattle.housefile.proofs.Lists.{owners-long, priorities-long, targets-long}
 
 -- what holds of every row's number and places holds of what is given
 
 abbrev Each : (ℕ → ℕ → Type 0) → List Row → Type 0
 Each P [] = Unit {0}
-Each P (row ∷ rows) = ((x : ℕ) → row .applies x → P (row .number) x) × Each P rows
+Each P (r ∷ rows) = ((x : ℕ) → r .applies x → P (r .number) x) × Each P rows
 
 each-append : (P : ℕ → ℕ → Type 0) (rows more : List Row) → Each P rows → Each P more → Each P (rows ++ more)
 each-append P [] more a b = b
-each-append P (row ∷ rows) more a b = (a .0, each-append P rows more (a .1) b)
+each-append P (r ∷ rows) more a b = (a .0, each-append P rows more (a .1) b)
 
 first-each : (P : ℕ → ℕ → Type 0) (rows : List Row) (k x : ℕ) → Each P rows → First rows k x → P k x
 first-each P [] k x a f = absurd f
-first-each P (row ∷ rows) k x a (inl here) = subst (λ (j : ℕ). P j x) (sym (here .0)) (a .0 x (here .1 .holds))
-first-each P (row ∷ rows) k x a (inr later) = first-each P rows k x (a .1) (later .1)
+first-each P (r ∷ rows) k x a (inl here) = subst (λ (j : ℕ). P j x) (sym (here .0)) (a .0 x (here .1 .holds))
+first-each P (r ∷ rows) k x a (inr later) = first-each P rows k x (a .1) (later .1)
 
 -- a number of two digits, and a place of five
 pub record Printable (k x : ℕ) : Type 0 where
@@ -105,7 +88,7 @@ module _ (file : List ℕ) (bytes : (i : ℕ) → getD file i 0 < 256) (short : 
   of-head : Each Printable (headRows file)
   of-head = (
     λ x f. of-length x (f .place),
-    each-append Printable (blockRows file 0) (record { number = 1; applies = FaultSizes file } ∷ record { number = 41; applies = Fault41Length file } ∷ []) (of-block 0 (omega arith)) (
+    each-append Printable (blockRows file 0) (row 1 (FaultSizes file) ∷ row 41 (Fault41Length file) ∷ []) (of-block 0 (omega arith)) (
       λ x f. record { number-low = omega arith; place-low = omega (arith, sizes-0 x f) },
       (λ x f. of-length x (f .place), tt),
     ),
@@ -129,7 +112,7 @@ module _ (file : List ℕ) (bytes : (i : ℕ) → getD file i 0 < 256) (short : 
     (
       λ x f. record { number-low = omega arith; place-low = omega (arith, f .vertex, owners-long file, n-low) },
       (
-        λ x f. record { number-low = omega arith; place-low = omega (arith, f .vertex, n-low) },
+        λ x f. record { number-low = omega arith; place-low = omega (arith, f .vertex, priorities-long file, n-low) },
         (
           λ x f. record { number-low = omega arith; place-low = omega (arith, f .vertex, n-low) },
           (
@@ -144,6 +127,6 @@ module _ (file : List ℕ) (bytes : (i : ℕ) → getD file i 0 < 256) (short : 
   pub printable : (k x : ℕ) → First (judgedRows file) k x → Printable k x
   printable k x f =
       first-each Printable (judgedRows file) k x
-      (each-append Printable (headRows file) (turnRows file ++ filedRows file) of-head
-      (each-append Printable (turnRows file) (filedRows file) (of-blocks 1 (vertexBlocks (verticesFiled file) + targetBlocks (edgesFiled file)) (omega (arith, n-low, m-low))) of-filed))
+      (each-append Printable (headRows file ++ turnRows file) (filedRows file)
+      (each-append Printable (headRows file) (turnRows file) of-head (of-blocks 1 (vertexBlocks (verticesFiled file) + targetBlocks (edgesFiled file)) (omega (arith, n-low, m-low)))) of-filed)
       f

@@ -5,6 +5,7 @@ pub mod Fields
 pub mod Lined
 pub mod Widths
 pub mod Answers
+pub mod Alike
 pub mod Whole
 pub mod Judging
 pub mod Filing

@@ -7,10 +7,10 @@ use native.Mathlib.Nat.{not-suc-le-zero}
 use native.Mathlib.Numerals.{add-one}
 use native.Mathlib.Decide.{ℕ-discrete}
 use lib.ListN.{length, length-append}
-use Rattle.listing.specs.Text.{vertexLine, vertexLines}
-use Rattle.listing.specs.Append.{Room, Appended, appended-both}
-use Rattle.listing.specs.Answering.{Listable}
-use Rattle.listing.proofs.Appending.{appended-none}
+use Rattle.listing.specs.promise.Text.{vertexLine, vertexLines}
+use Rattle.listing.specs.parts.Append.{Room, Appended}
+use Rattle.listing.specs.parts.Answering.{Listable}
+use Rattle.listing.proofs.Appending.{appended-both, appended-none}
 
 -- the lines of the vertices below v are appended
 pub record Lined (n : ℕ) (owners priorities winners moves before : List ℕ) (at : ℕ) (text : List ℕ) (next v : ℕ) : Type 0 where

@@ -1,115 +1,103 @@
--- The lines of a game that was read, with an answer that the checker accepts: that they fit into the text, and that they are its listing.
-use Prim.Native.Nat.{ℕ, zero, suc, _+_, _*_, _<_, _≤_}
-use mathlib.Core.Path.{_≡_, refl, sym, ap, ap₂, subst, _∙_}
+-- The lines of a game that was read, with a solution: that they fit into the text, and that they are its listing.
+use Prim.Native.Nat.{ℕ, _*_, _<_, _≤_}
+use mathlib.Core.Path.{_≡_, sym, ap, ap₂, subst, _∙_}
 use mathlib.Core.Logic.{_⊎_, inl, inr}
-use mathlib.Core.List.{List, [], _∷_, _++_}
+use mathlib.Core.List.{List, _++_}
 use native.Mathlib.Omega.{arith}
 use native.Mathlib.Decide.{ℕ-discrete}
 use lib.ListN.{length, take, getD}
-use lib.Seq.{length-take-le, getD-take}
-use Rattle.game.specs.Game.{Game}
-use Rattle.game.specs.Tables.{gameOf}
-use Rattle.game.specs.Answer.{markOf, moveOf}
-use Rattle.winning.specs.Answer.{Accepted}
-use Rattle.winning.proofs.Backed.{Backed}
-use Rattle.winning.proofs.Accepted.{accepted-backed}
-use Rattle.listing.specs.Text.{decimalOf, lineOf, moveField, gameLine, vertexLine, vertexLines}
-use Rattle.listing.specs.Append.{Room, Appended, appended-both}
-use Rattle.listing.specs.Answering.{Listable, Tabled, Solvable, Answered, AnswerListed}
+use lib.Seq.{length-take-le}
+use Rattle.game.specs.promise.Tables.{Tables, vertices}
+use Rattle.game.specs.promise.Answer.{Answer, markOf, moveOf}
+use Rattle.game.specs.promise.Lent.{Lent}
+use Rattle.solver.specs.promise.Solving.{IsSolution}
+use Rattle.listing.specs.promise.Text.{gameLine, vertexLines}
+use Rattle.listing.specs.promise.Listing.{gameText}
+use Rattle.listing.specs.parts.Append.{Room, Appended}
+use Rattle.listing.specs.parts.Answering.{frontOf, answerFront, Listable, Tabled, Solvable, AnsweredHere, AnswerListed}
+use Rattle.listing.proofs.Alike.{alike-front, lines-alike}
+use Rattle.listing.proofs.Appending.{appended-both, appended-as, appended-within}
 use Rattle.listing.proofs.Widths.{Narrow, game-line-most, lines-most}
 
--- the lines of the vertices below n say only what stands below n in the tables and in the answer
-module _ (n : ℕ) (owners priorities winners moves : List ℕ) where
-  line-of : ℕ → ℕ → ℕ → ℕ → ℕ → List ℕ
-  line-of v a b c d = lineOf (decimalOf v ∷ decimalOf a ∷ decimalOf b ∷ decimalOf c ∷ moveField d ∷ [])
-
-  line-taken : (v : ℕ) → v < n → vertexLine owners priorities winners moves v ≡ vertexLine (take n owners) (take n priorities) (take n winners) (take n moves) v
-  unfolding line-of
-  line-taken v l =
-      ap₂ (λ (a b : ℕ). line-of v a b (getD winners v 0) (getD moves v 0)) (sym (getD-take n owners v 0 l)) (sym (getD-take n priorities v 0 l)) ∙
-      ap₂ (λ (c d : ℕ). line-of v (getD (take n owners) v 0) (getD (take n priorities) v 0) c d) (sym (getD-take n winners v 0 l)) (sym (getD-take n moves v 0 l))
-
-  lines-taken : (k : ℕ) → k ≤ n → vertexLines owners priorities winners moves k ≡ vertexLines (take n owners) (take n priorities) (take n winners) (take n moves) k
-  unfolding vertexLines
-  lines-taken zero l = refl
-  lines-taken (suc k) l = ap₂ (λ (x y : List ℕ). x ++ y) (lines-taken k (omega arith)) (line-taken k l)
-
--- an accepted answer's marks and moves
-module _ (g : Game) (winners moves : List ℕ) (few : g .n ≤ 2048) (a : Accepted g (markOf winners) (moveOf moves)) where
-  backed : Backed g (markOf winners) (moveOf moves)
-  backed = accepted-backed g (markOf winners) (moveOf moves) a
-
-  pub winner-low : (v : ℕ) → v < g .n → getD winners v 0 < 2
+-- a solution's winners and moves
+module _ (t : Tables) (a : Answer) (s : IsSolution t a) where
+  winner-low : (v : ℕ) → v < vertices t → getD (a .winners) v 0 < 2
   unfolding markOf
-  winner-low v l = backed .winner v l
+  winner-low v l = s .form .winner v l
 
-  pub move-low : (v : ℕ) → v < g .n → (getD moves v 0 ≡ 65535) ⊎ (getD moves v 0 < 2048)
+  move-low : vertices t ≤ 2048 → (v : ℕ) → v < vertices t → (getD (a .moves) v 0 ≡ 65535) ⊎ (getD (a .moves) v 0 < 2048)
   unfolding markOf moveOf
-  move-low v l =
-      elim (ℕ-discrete (g .owner v) (getD winners v 0)) [
-        | yes e ↦ inr (let t = backed .owned v l e .0 .to in omega (arith, t))
-        | no e ↦ inl (backed .elsewhere v l e)
+  move-low few v l =
+      elim (ℕ-discrete (getD (t .owners) v 0) (getD (a .winners) v 0)) [
+        | yes e ↦ inr (let to = s .form .successor v l e .to in omega (arith, to))
+        | no e ↦ inl (s .form .elsewhere v l e)
       ]
 
-module _ (n m : ℕ) (owners priorities starts targets : List ℕ) (t : Tabled n m owners priorities starts targets) where
-  abbrev game : Game
-  game = gameOf (take n owners) (take n priorities) (take (n + 1) starts) (take m targets)
+module _ (n m : ℕ) (t : Tables) (d : Tabled n m t) where
+  n-is : vertices (frontOf n m t) ≡ n
+  n-is = length-take-le n (t .owners) (d .owners-long)
 
-  n-is : length (take n owners) ≡ n
-  n-is = length-take-le n owners (t .owners-long)
-
-  m-is : length (take m targets) ≡ m
-  m-is = length-take-le m targets (t .targets-long)
+  m-is : length (frontOf n m t .targets) ≡ m
+  m-is = length-take-le m (t .targets) (d .targets-long)
 
   few : n ≤ 2048
-  few = omega (arith, n-is, t .well-formed .sound .few)
+  few = omega (arith, n-is, d .well-formed .sound .few)
 
-  pub solvable : {winners moves work : List ℕ} → length winners ≡ 2048 → length moves ≡ 2048 → length work ≡ 8192 → Solvable n m owners priorities starts targets winners moves work
-  solvable w v k = record { tabled = t; winners-long = omega (arith, few); moves-long = omega (arith, few); work-long = omega (arith, few) }
+  pub solvable : {l : Lent} → length (l .answer .winners) ≡ 2048 → length (l .answer .moves) ≡ 2048 → length (l .work) ≡ 8192 → Solvable n m t l
+  solvable w v k = record { tabled = d; winners-long = omega (arith, few); moves-long = omega (arith, few); work-long = omega (arith, few) }
 
   pub n-low : n < 100000
   n-low = omega (arith, few)
 
   pub m-low : m < 100000
-  m-low = omega (arith, m-is, t .well-formed .edges)
+  m-low = omega (arith, m-is, d .well-formed .edges)
 
   pub game-room : (text : List ℕ) → length text ≡ 36880 → Room text 0 (gameLine n m)
   game-room text e = record { room = omega (arith, game-line-most n m (omega (arith, few))) }
 
-  module _ (winners moves : List ℕ) (a : Answered n m owners priorities starts targets winners moves) where
-    pub listable : Listable n owners priorities winners moves
-    listable = record { few = few; owners-long = t .owners-long; priorities-long = t .priorities-long; winners-long = a .winners-long; moves-long = a .moves-long }
+  module _ (a : Answer) (h : AnsweredHere n m t a) where
+    pub listable : Listable n (t .owners) (t .priorities) (a .winners) (a .moves)
+    listable = record { few = few; owners-long = d .owners-long; priorities-long = d .priorities-long; winners-long = h .winners-long; moves-long = h .moves-long }
 
-    narrow : (v : ℕ) → v < n → Narrow (take n owners) (take n priorities) (take n winners) (take n moves) v
+    -- the lines that are written, and those of the lists' beginnings
+
+    abbrev lines : List ℕ
+    lines = vertexLines (t .owners) (t .priorities) (a .winners) (a .moves) n
+
+    abbrev front : List ℕ
+    front = vertexLines (take n (t .owners)) (take n (t .priorities)) (take n (a .winners)) (take n (a .moves)) n
+
+    lines-are : lines ≡ front
+    lines-are = lines-alike n alike-front alike-front alike-front alike-front
+
+    narrow : (v : ℕ) → v < n → Narrow (take n (t .owners)) (take n (t .priorities)) (take n (a .winners)) (take n (a .moves)) v
     narrow v l =
-        let k : v < length (take n owners) = subst (λ (x : ℕ). v < x) (sym n-is) l in
+        let k : v < vertices (frontOf n m t) = subst (λ (x : ℕ). v < x) (sym n-is) l in
+        let sound = d .well-formed .sound in
         record {
           vertex = omega (arith, few);
-          owner = omega (arith, t .well-formed .sound .owned v k);
-          priority = omega (arith, t .well-formed .sound .ranked v k);
-          winner = omega (arith, winner-low game (take n winners) (take n moves) (t .well-formed .sound .few) (a .accepted) v k);
-          move = move-low game (take n winners) (take n moves) (t .well-formed .sound .few) (a .accepted) v k;
+          owner = omega (arith, sound .owned v k);
+          priority = omega (arith, sound .ranked v k);
+          winner = omega (arith, winner-low (frontOf n m t) (answerFront n a) (h .solution) v k);
+          move = move-low (frontOf n m t) (answerFront n a) (h .solution) (sound .few) v k;
         }
 
-    lines-long : length (vertexLines owners priorities winners moves n) ≤ 18 * n
-    lines-long =
-        subst (λ (x : List ℕ). length x ≤ 18 * n) (sym (lines-taken n owners priorities winners moves n (omega arith)))
-        (lines-most (take n owners) (take n priorities) (take n winners) (take n moves) n narrow)
+    lines-long : length lines ≤ 18 * n
+    lines-long = subst (λ (x : List ℕ). length x ≤ 18 * n) (sym lines-are) (lines-most _ _ _ _ n narrow)
 
     module _ {text text1 : List ℕ} {at : ℕ} (e : length text ≡ 36880) (p : Appended text text1 0 (gameLine n m) at) where
-      pub lines-room : Room text1 at (vertexLines owners priorities winners moves n)
+      pub lines-room : Room text1 at lines
       lines-room = record { room = omega (arith, lines-long, few, game-line-most n m (omega (arith, few)), p .long, p .ends) }
 
-      pub answer-listed : {text2 : List ℕ} {r : ℕ} → Appended text1 text2 at (vertexLines owners priorities winners moves n) r → (r ≤ length text2) × AnswerListed (take n owners) (take n priorities) (take (n + 1) starts) (take m targets) (take r text2)
-      answer-listed {text2} {r} q = (
-        omega (arith, lines-room .room, q .long, q .ends),
-        record {
-          winners = take n winners;
-          moves = take n moves;
-          accepted = a .accepted;
-          is =
-              appended-both (gameLine n m) (vertexLines owners priorities winners moves n) p q .is ∙
-              ap (λ (x : List ℕ). gameLine n m ++ x) (lines-taken n owners priorities winners moves n (omega arith)) ∙
-              ap₂ (λ (i j : ℕ). gameLine i j ++ vertexLines (take n owners) (take n priorities) (take n winners) (take n moves) i) (sym n-is) (sym m-is);
-        },
-      )
+      pub answer-listed : {text2 : List ℕ} {r : ℕ} → Appended text1 text2 at lines r → AnswerListed (frontOf n m t) text text2 r
+      answer-listed q =
+          record {
+            answer = answerFront n a;
+            solution = h .solution;
+            within = appended-within lines lines-room q;
+            done =
+                appended-as
+                (ap (λ (x : List ℕ). gameLine n m ++ x) lines-are ∙
+                ap₂ (λ (i j : ℕ). gameText i j (frontOf n m t) (answerFront n a)) (sym n-is) (sym m-is))
+                (appended-both (gameLine n m) lines p q);
+          }

@@ -6,7 +6,7 @@ use mathlib.Core.List.{List, [], _∷_, _++_}
 use native.Mathlib.Omega.{arith}
 use native.Mathlib.Decide.{decLe}
 use lib.ListN.{length, getD, length-append}
-use Rattle.listing.specs.Text.{reaches, decimalOf, lineOf, wordGame, wordRefused, moveField, gameLine, refusedLine, vertexLine, vertexLines}
+use Rattle.listing.specs.promise.Text.{reaches, decimalOf, lineOf, wordGame, wordRefused, moveField, gameLine, refusedLine, vertexLine, vertexLines}
 use Rattle.listing.proofs.Decimals.{reaches-yes, reaches-no, decimal-long, move-none, move-some}
 
 reaches-most : (k n : ℕ) → reaches k n ≤ 1

@@ -1,4 +1,2 @@
-pub mod Text
-pub mod Listing
-pub mod Append
-pub mod Answering
+pub mod promise
+pub mod parts

@@ -3,13 +3,14 @@ use crate::text::byte;
 use crate::text::field;
 use crate::text::number;
 use crate::text::word;
+use game::NONE;
 use refusal::Refusal;
 ghost use Prim.Native.Nat.{_<_};
 ghost use mathlib.Core.List.{[], _∷_};
-ghost use Rattle.refusal.specs.Number.{numberOf};
-ghost use Rattle.listing.specs.Text.{decimalOf, lineOf, moveField, gameLine, refusedLine, vertexLines};
-ghost use Rattle.listing.specs.Append.{Room, Appended};
-ghost use Rattle.listing.specs.Answering.{Listable};
+ghost use Rattle.refusal.specs.promise.Number.{numberOf};
+ghost use Rattle.listing.specs.promise.Text.{decimalOf, lineOf, moveField, gameLine, refusedLine, vertexLines};
+ghost use Rattle.listing.specs.parts.Append.{Room, Appended};
+ghost use Rattle.listing.specs.parts.Answering.{Listable};
 
 // The first line of a game: vertices, edges.
 pub fn game_line(text: &mut [u8], vertices: usize, edges: usize) -> usize
@@ -39,7 +40,7 @@ fn move_field(text: &mut [u8], at: usize, to: u16) -> usize
     requires { ⌜ Room (now text) at (moveField to) ⌝ }
     ensures { λ r. ⌜ Appended (now (text .entry)) (now (text .exit)) at (moveField to) r ⌝ }
 {
-    if to == 65535 {
+    if to == NONE {
         return byte(text, at, b'-');
     }
     number(text, at, to as u64)

@@ -2,14 +2,17 @@
 use crate::lines::game_line;
 use crate::lines::refused_line;
 use crate::lines::vertex_lines;
+use game::EDGES;
+use game::VERTICES;
 use housefile::Read;
 use housefile::reader::read;
 use solver::solve;
-ghost use Prim.Native.Nat.{_+_, _≤_};
+ghost use Prim.Native.Nat.{_≤_};
 ghost use mathlib.Core.Path.{_≡_};
-ghost use lib.ListN.{length, take};
-ghost use Rattle.listing.specs.Listing.{Lists};
-ghost use Rattle.listing.specs.Answering.{Tabled, Solvable, Answered, AnswerListed};
+ghost use lib.ListN.{length};
+ghost use Rattle.game.specs.promise.Lent.{asked, lent, claim, buffers};
+ghost use Rattle.listing.specs.promise.Listing.{SetDown};
+ghost use Rattle.listing.specs.parts.Answering.{frontOf, Tabled, Solvable, AnsweredHere, AnswerListed};
 
 // Solves the game of n vertices and m edges that stands at the tables' beginnings. It is never refused: what was read is well formed.
 fn answer(
@@ -23,8 +26,8 @@ fn answer(
     moves: &mut [u16],
     work: &mut [u16],
 )
-    requires { ⌜ Solvable n m (now owners) (now priorities) (now starts) (now targets) (now winners) (now moves) (now work) ⌝ }
-    ensures { λ _. ⌜ Answered n m (now (owners .entry)) (now (priorities .entry)) (now (starts .entry)) (now (targets .entry)) (now (winners .exit)) (now (moves .exit)) ⌝ }
+    requires { ⌜ Solvable n m (asked owners priorities starts targets) (buffers winners moves work) ⌝ }
+    ensures { λ _. ⌜ AnsweredHere n m (lent owners priorities starts targets) (claim (winners .exit) (moves .exit)) ⌝ }
 {
     let past = n + 1;
     let cells = 4 * n;
@@ -49,11 +52,11 @@ fn listed(
     targets: &[u16],
     text: &mut [u8],
 ) -> usize
-    requires { ⌜ Tabled n m (now owners) (now priorities) (now starts) (now targets) × (length (now text) ≡ 36880) ⌝ }
-    ensures { λ r. ⌜ (r ≤ length (now (text .exit))) × AnswerListed (take n (now (owners .entry))) (take n (now (priorities .entry))) (take (n + 1) (now (starts .entry))) (take m (now (targets .entry))) (take r (now (text .exit))) ⌝ }
+    requires { ⌜ Tabled n m (asked owners priorities starts targets) × (length (now text) ≡ 36880) ⌝ }
+    ensures { λ r. ⌜ AnswerListed (frontOf n m (lent owners priorities starts targets)) (now (text .entry)) (now (text .exit)) r ⌝ }
 {
-    let mut winners = [0u8; 2048];
-    let mut moves = [0u16; 2048];
+    let mut winners = [0u8; VERTICES];
+    let mut moves = [0u16; VERTICES];
     let mut work = [0u16; 8192];
     answer(
         n,
@@ -73,12 +76,12 @@ fn listed(
 // Sets the listing of the file down in the text and returns how many bytes it has.
 pub fn list(file: &[u8], text: &mut [u8]) -> usize
     requires { ⌜ (length (now file) ≤ 43520) × (length (now text) ≡ 36880) ⌝ }
-    ensures { λ r. ⌜ (r ≤ length (now (text .exit))) × Lists (now (file .entry)) (take r (now (text .exit))) ⌝ }
+    ensures { λ r. ⌜ SetDown (now (file .entry)) (now (text .entry)) (now (text .exit)) r ⌝ }
 {
-    let mut owners = [0u8; 2048];
-    let mut priorities = [0u8; 2048];
+    let mut owners = [0u8; VERTICES];
+    let mut priorities = [0u8; VERTICES];
     let mut starts = [0u16; 2049];
-    let mut targets = [0u16; 16384];
+    let mut targets = [0u16; EDGES];
     let taken = read(
         file,
         &mut owners,

@@ -1,8 +1,8 @@
 // Appending to a text in a lent slice: each function takes the place at which it begins and returns the place after it.
 ghost use Prim.Native.Nat.{_<_};
 ghost use mathlib.Core.List.{[], _∷_, _++_};
-ghost use Rattle.listing.specs.Append.{Room, Appended};
-ghost use Rattle.listing.specs.Text.{decimalOf};
+ghost use Rattle.listing.specs.parts.Append.{Room, Appended};
+ghost use Rattle.listing.specs.promise.Text.{decimalOf};
 
 pub fn byte(text: &mut [u8], at: usize, b: u8) -> usize
     requires { ⌜ Room (now text) at (b ∷ []) ⌝ }

@@ -4,22 +4,22 @@ use mathlib.Core.Path.{_≡_}
 use mathlib.Core.List.{List}
 use native.Mathlib.Decide.{decLt}
 use native.Mathlib.Omega.{arith}
-use lib.ListN.{length}
+use Rattle.game.specs.promise.Tables.{Tables, vertices}
 use Rattle.pick.specs.declared.Picked.{Picked}
 use Rattle.pick.specs.declared.Picked.the-variants.{At, Nothing}
-use Rattle.pick.specs.Order.{Picks}
+use Rattle.pick.specs.parts.Order.{Picks}
 use Rattle.step.proofs.Least.{LeastStepped}
 use Rattle.step.proofs.Moving.{moved-more}
-use Rattle.attract.specs.Pile.{Pushable, PushedOn}
-use Rattle.attract.specs.Drawing.{Drainable, Drawn}
+use Rattle.attract.specs.parts.Pile.{Pushable, PushedOn}
+use Rattle.attract.specs.parts.Drawing.{Drainable, Drawn}
 use Rattle.orders.specs.declared.Ended.the-variants.{Done}
-use Rattle.orders.specs.Ending.{Probable, Ran}
+use Rattle.orders.specs.parts.Ending.{Probable, Ran}
 use Rattle.orders.proofs.Running.{none-below-zero, picked-moved, picked-least, picked-all}
 
 module _
-    {v low : ℕ} {owners priorities starts targets heads nexts sources firsts lasts waiting levels stack winners moves work firsts′ lasts′ waiting′ levels′ winners′ moves′ work′ : List ℕ}
-    (p : Probable v owners priorities starts targets heads nexts sources firsts lasts waiting levels stack winners moves work)
-    (s : LeastStepped owners priorities starts targets heads nexts sources winners moves work firsts′ lasts′ waiting′ levels′ winners′ moves′ work′ low)
+    {v low : ℕ} {tables : Tables} {heads nexts sources firsts lasts waiting levels stack winners moves work firsts′ lasts′ waiting′ levels′ winners′ moves′ work′ : List ℕ}
+    (p : Probable v tables heads nexts sources firsts lasts waiting levels stack winners moves work)
+    (s : LeastStepped tables heads nexts sources winners moves work firsts′ lasts′ waiting′ levels′ winners′ moves′ work′ low)
   where
     -- v goes on an empty pile
     pub probe-pushable : Pushable v stack 0
@@ -30,21 +30,21 @@ module _
           within = omega arith;
         }
 
-    pub probe-drainable : {tail : ℕ} {stack′ : List ℕ} → PushedOn v stack 0 stack′ tail → Drainable tail owners priorities starts targets heads nexts sources firsts′ lasts′ waiting′ levels′ stack′ winners′ moves′ work′
-    probe-drainable x = record { engine = s .moved .engine; piled = x .piled (length owners) (p .least .vertex) (p .drainable .piled) }
+    pub probe-drainable : {tail : ℕ} {stack′ : List ℕ} → PushedOn v stack 0 stack′ tail → Drainable tail tables heads nexts sources firsts′ lasts′ waiting′ levels′ stack′ winners′ moves′ work′
+    probe-drainable x = record { engine = s .moved .engine; piled = x .piled (vertices tables) (p .least .vertex) (p .drainable .piled) }
 
     pub probed :
         {firsts″ lasts″ waiting″ levels″ stack″ winners″ moves″ work″ : List ℕ} →
-        Drawn 0 owners priorities starts targets heads nexts sources winners′ moves′ work′ firsts″ lasts″ waiting″ levels″ stack″ winners″ moves″ work″ →
-        Drawn 0 owners priorities starts targets heads nexts sources winners moves work firsts″ lasts″ waiting″ levels″ stack″ winners″ moves″ work″
+        Drawn 0 tables heads nexts sources winners′ moves′ work′ firsts″ lasts″ waiting″ levels″ stack″ winners″ moves″ work″ →
+        Drawn 0 tables heads nexts sources winners moves work firsts″ lasts″ waiting″ levels″ stack″ winners″ moves″ work″
     probed d = record { moved = moved-more (s .moved) (d .moved); piled = d .piled }
 
 module _
-    {owners priorities starts targets heads nexts sources winners₀ moves₀ work₀ firsts lasts waiting levels stack winners moves work firsts′ waiting′ : List ℕ} {r : Picked}
-    (d : Drawn 0 owners priorities starts targets heads nexts sources winners₀ moves₀ work₀ firsts lasts waiting levels stack winners moves work)
-    (p : Picks (length owners) 0 firsts waiting work firsts′ waiting′ r)
+    {tables : Tables} {heads nexts sources winners₀ moves₀ work₀ firsts lasts waiting levels stack winners moves work firsts′ waiting′ : List ℕ} {r : Picked}
+    (d : Drawn 0 tables heads nexts sources winners₀ moves₀ work₀ firsts lasts waiting levels stack winners moves work)
+    (p : Picks (vertices tables) 0 firsts waiting work firsts′ waiting′ r)
   where
-    pub picked-probable : {v : ℕ} → r ≡ At v → Probable v owners priorities starts targets heads nexts sources firsts′ lasts waiting′ levels stack winners moves work
+    pub picked-probable : {v : ℕ} → r ≡ At v → Probable v tables heads nexts sources firsts′ lasts waiting′ levels stack winners moves work
     picked-probable h =
         record {
           drainable = record { engine = picked-moved (d .moved .engine) none-below-zero p .engine; piled = d .piled };
@@ -52,7 +52,7 @@ module _
         }
 
     -- nothing is open
-    pub attracted-all : r ≡ Nothing → Ran owners priorities starts targets heads nexts sources winners₀ moves₀ work₀ firsts′ lasts waiting′ levels winners moves work Done
+    pub attracted-all : r ≡ Nothing → Ran tables heads nexts sources winners₀ moves₀ work₀ firsts′ lasts waiting′ levels winners moves work Done
     attracted-all h =
         record {
           moved = moved-more (d .moved) (picked-moved (d .moved .engine) none-below-zero p);

@@ -3,38 +3,37 @@ use Prim.Native.Nat.{ℕ, _<_, _≤_}
 use mathlib.Core.Path.{_≡_}
 use mathlib.Core.List.{List}
 use native.Mathlib.Omega.{arith}
-use lib.ListN.{length}
-use Rattle.game.specs.Tables.{gameOf}
-use Rattle.game.specs.Answer.{markOf}
-use Rattle.justification.specs.Measure.{measure}
-use Rattle.reach.specs.Work.{section}
+use Rattle.game.specs.promise.Tables.{gameOf, Tables, vertices}
+use Rattle.game.specs.promise.Answer.{markOf}
+use Rattle.justification.specs.parts.Measure.{measure}
+use Rattle.reach.specs.parts.Work.{section}
 use Rattle.pick.specs.declared.Picked.{Picked}
 use Rattle.pick.specs.declared.Picked.the-variants.{At, Nothing}
-use Rattle.pick.specs.Order.{LeastOpen, AllSettled, NoneBelow, Pickable, Picks}
+use Rattle.pick.specs.parts.Order.{LeastOpen, AllSettled, NoneBelow, Pickable, Picks}
 use Rattle.pick.proofs.Picking.{picked-at, picked-nothing, covered-dropped, standing-dropped}
-use Rattle.levels.specs.Levels.{settledOf}
-use Rattle.step.specs.Stepping.{Engine, Moved, Falls}
+use Rattle.levels.specs.parts.Levels.{settledOf}
+use Rattle.step.specs.parts.Stepping.{Engine, Moved, Falls}
 use Rattle.step.proofs.Least.{LeastSteppable, LeastStepped}
 use Rattle.step.proofs.Moving.{moved-none, moved-more, moved-lines}
 use Rattle.orders.specs.declared.Ended.the-variants.{Done}
-use Rattle.orders.specs.Ending.{Ran}
+use Rattle.orders.specs.parts.Ending.{Ran}
 
-module _ {owners priorities starts targets heads nexts sources firsts lasts waiting levels winners moves work : List ℕ} (e : Engine owners priorities starts targets heads nexts sources firsts lasts waiting levels winners moves work) where
-  pub pickable : Pickable (length owners) firsts waiting work
-  pickable = record { priorities = priorities; lasts = lasts; standing = e .standing }
+module _ {tables : Tables} {heads nexts sources firsts lasts waiting levels winners moves work : List ℕ} (e : Engine tables heads nexts sources firsts lasts waiting levels winners moves work) where
+  pub pickable : Pickable (vertices tables) firsts waiting work
+  pickable = record { priorities = (tables .priorities); lasts = lasts; standing = e .standing }
 
-  module _ {from : ℕ} {firsts′ waiting′ : List ℕ} {r : Picked} (b : NoneBelow (length owners) priorities (section 0 (length owners) work) from) (p : Picks (length owners) from firsts waiting work firsts′ waiting′ r) where
+  module _ {from : ℕ} {firsts′ waiting′ : List ℕ} {r : Picked} (b : NoneBelow (vertices tables) (tables .priorities) (section 0 (vertices tables) work) from) (p : Picks (vertices tables) from firsts waiting work firsts′ waiting′ r) where
     -- some settled vertices have left their lines
-    pub picked-moved : Moved owners priorities starts targets heads nexts sources winners moves work firsts′ lasts waiting′ levels winners moves work
+    pub picked-moved : Moved tables heads nexts sources winners moves work firsts′ lasts waiting′ levels winners moves work
     picked-moved = moved-lines e (standing-dropped (p .dropped) (e .standing)) (covered-dropped (p .dropped) (e .covered))
 
-    pub picked-least : {v : ℕ} → r ≡ At v → LeastOpen (length owners) priorities (section 0 (length owners) work) v
+    pub picked-least : {v : ℕ} → r ≡ At v → LeastOpen (vertices tables) (tables .priorities) (section 0 (vertices tables) work) v
     picked-least h = picked-at h p (e .standing) (e .covered) b
 
-    pub picked-steppable : {v : ℕ} → r ≡ At v → LeastSteppable v owners priorities starts targets heads nexts sources firsts′ lasts waiting′ levels winners moves work
+    pub picked-steppable : {v : ℕ} → r ≡ At v → LeastSteppable v tables heads nexts sources firsts′ lasts waiting′ levels winners moves work
     picked-steppable h = record { engine = picked-moved .engine; least = picked-least h }
 
-    pub picked-all : r ≡ Nothing → AllSettled (length owners) (section 0 (length owners) work)
+    pub picked-all : r ≡ Nothing → AllSettled (vertices tables) (section 0 (vertices tables) work)
     picked-all h = picked-nothing h p (e .standing) (e .covered) b
 
 -- nothing at all is below 0
@@ -42,19 +41,19 @@ pub none-below-zero : {n : ℕ} {priorities flags : List ℕ} → NoneBelow n pr
 none-below-zero = record { above = λ u l f. omega arith }
 
 -- the measure has fallen, or nothing was spent
-pub record Spending (budget left : ℕ) (owners priorities starts targets winners₀ work₀ winners work : List ℕ) : Type 0 where
-  pub not-more : measure (gameOf owners priorities starts targets) (markOf winners) (settledOf (length owners) work) ≤ measure (gameOf owners priorities starts targets) (markOf winners₀) (settledOf (length owners) work₀)
-  pub less : left < budget → Falls owners priorities starts targets winners₀ work₀ winners work
+pub record Spending (budget left : ℕ) (tables : Tables) (winners₀ work₀ winners work : List ℕ) : Type 0 where
+  pub not-more : measure (gameOf tables) (markOf winners) (settledOf (vertices tables) work) ≤ measure (gameOf tables) (markOf winners₀) (settledOf (vertices tables) work₀)
+  pub less : left < budget → Falls tables winners₀ work₀ winners work
 
 -- lowest first: the engine has moved, and nothing below the cursor is open
-pub record Lowering (low budget left : ℕ) (owners priorities starts targets heads nexts sources winners₀ moves₀ work₀ firsts lasts waiting levels winners moves work : List ℕ) : Type 0 where
+pub record Lowering (low budget left : ℕ) (tables : Tables) (heads nexts sources winners₀ moves₀ work₀ firsts lasts waiting levels winners moves work : List ℕ) : Type 0 where
   pub at-most : left ≤ budget
-  pub moved : Moved owners priorities starts targets heads nexts sources winners₀ moves₀ work₀ firsts lasts waiting levels winners moves work
-  pub none-below : NoneBelow (length owners) priorities (section 0 (length owners) work) low
-  pub spending : Spending budget left owners priorities starts targets winners₀ work₀ winners work
+  pub moved : Moved tables heads nexts sources winners₀ moves₀ work₀ firsts lasts waiting levels winners moves work
+  pub none-below : NoneBelow (vertices tables) (tables .priorities) (section 0 (vertices tables) work) low
+  pub spending : Spending budget left tables winners₀ work₀ winners work
 
-module _ {owners priorities starts targets heads nexts sources winners₀ moves₀ work₀ : List ℕ} where
-  pub lowering-none : {budget : ℕ} {firsts lasts waiting levels : List ℕ} → Engine owners priorities starts targets heads nexts sources firsts lasts waiting levels winners₀ moves₀ work₀ → Lowering 0 budget budget owners priorities starts targets heads nexts sources winners₀ moves₀ work₀ firsts lasts waiting levels winners₀ moves₀ work₀
+module _ {tables : Tables} {heads nexts sources winners₀ moves₀ work₀ : List ℕ} where
+  pub lowering-none : {budget : ℕ} {firsts lasts waiting levels : List ℕ} → Engine tables heads nexts sources firsts lasts waiting levels winners₀ moves₀ work₀ → Lowering 0 budget budget tables heads nexts sources winners₀ moves₀ work₀ firsts lasts waiting levels winners₀ moves₀ work₀
   lowering-none e =
       record {
         at-most = omega arith;
@@ -65,13 +64,13 @@ module _ {owners priorities starts targets heads nexts sources winners₀ moves�
 
   module _
       {low budget left : ℕ} {firsts lasts waiting levels winners moves work : List ℕ}
-      (s : Lowering low budget left owners priorities starts targets heads nexts sources winners₀ moves₀ work₀ firsts lasts waiting levels winners moves work)
+      (s : Lowering low budget left tables heads nexts sources winners₀ moves₀ work₀ firsts lasts waiting levels winners moves work)
     where
       pub lowering-step :
           {low′ left′ : ℕ} {firsts′ lasts′ waiting′ levels′ winners′ moves′ work′ : List ℕ} →
           left′ < left →
-          LeastStepped owners priorities starts targets heads nexts sources winners moves work firsts′ lasts′ waiting′ levels′ winners′ moves′ work′ low′ →
-          Lowering low′ budget left′ owners priorities starts targets heads nexts sources winners₀ moves₀ work₀ firsts′ lasts′ waiting′ levels′ winners′ moves′ work′
+          LeastStepped tables heads nexts sources winners moves work firsts′ lasts′ waiting′ levels′ winners′ moves′ work′ low′ →
+          Lowering low′ budget left′ tables heads nexts sources winners₀ moves₀ work₀ firsts′ lasts′ waiting′ levels′ winners′ moves′ work′
       lowering-step l x =
           let less = x .falls .less in
           let before = s .spending .not-more in
@@ -83,7 +82,7 @@ module _ {owners priorities starts targets heads nexts sources winners₀ moves�
           }
 
       -- nothing is open
-      pub lowering-all : {firsts₁ waiting₁ : List ℕ} {r : Picked} → Picks (length owners) low firsts waiting work firsts₁ waiting₁ r → r ≡ Nothing → Ran owners priorities starts targets heads nexts sources winners₀ moves₀ work₀ firsts₁ lasts waiting₁ levels winners moves work Done
+      pub lowering-all : {firsts₁ waiting₁ : List ℕ} {r : Picked} → Picks (vertices tables) low firsts waiting work firsts₁ waiting₁ r → r ≡ Nothing → Ran tables heads nexts sources winners₀ moves₀ work₀ firsts₁ lasts waiting₁ levels winners moves work Done
       lowering-all p h =
           record {
             moved = moved-more (s .moved) (picked-moved (s .moved .engine) (s .none-below) p);

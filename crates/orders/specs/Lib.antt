@@ -1,1 +1,1 @@
-pub mod Ending
+pub mod parts

@@ -10,8 +10,9 @@ use pick::pick;
 use step::step;
 use step::test::test;
 ghost use Prim.Native.Nat.{_<_, _≤_};
-ghost use Rattle.attract.specs.Drawing.{Drainable, Drawn};
-ghost use Rattle.orders.specs.Ending.{Probable, Ran};
+ghost use Rattle.game.specs.promise.Lent.{asked, lent};
+ghost use Rattle.attract.specs.parts.Drawing.{Drainable, Drawn};
+ghost use Rattle.orders.specs.parts.Ending.{Probable, Ran};
 
 fn one_less(budget: usize) -> usize
     ensures { λ r. ⌜ (r ≤ budget) × (0 < budget → r < budget) ⌝ }
@@ -39,9 +40,9 @@ fn probe(
     moves: &mut [u16],
     work: &mut [u16],
 ) -> Left
-    requires { ⌜ Probable v (now owners) (now priorities) (now starts) (now targets) (now heads) (now nexts) (now sources) (now firsts) (now lasts) (now waiting) (now levels) (now stack) (now winners) (now moves) (now work) ⌝ }
+    requires { ⌜ Probable v (asked owners priorities starts targets) (now heads) (now nexts) (now sources) (now firsts) (now lasts) (now waiting) (now levels) (now stack) (now winners) (now moves) (now work) ⌝ }
     ensures left { λ r. ⌜ (r .budget ≤ budget) × (0 < budget → r .budget < budget) ⌝ }
-    ensures moved { λ r. ⌜ Drawn 0 (now (owners .entry)) (now (priorities .entry)) (now (starts .entry)) (now (targets .entry)) (now (heads .entry)) (now (nexts .entry)) (now (sources .entry)) (now (winners .entry)) (now (moves .entry)) (now (work .entry)) (now (firsts .exit)) (now (lasts .exit)) (now (waiting .exit)) (now (levels .exit)) (now (stack .exit)) (now (winners .exit)) (now (moves .exit)) (now (work .exit)) ⌝ }
+    ensures moved { λ r. ⌜ Drawn 0 (lent owners priorities starts targets) (now (heads .entry)) (now (nexts .entry)) (now (sources .entry)) (now (winners .entry)) (now (moves .entry)) (now (work .entry)) (now (firsts .exit)) (now (lasts .exit)) (now (waiting .exit)) (now (levels .exit)) (now (stack .exit)) (now (winners .exit)) (now (moves .exit)) (now (work .exit)) ⌝ }
 {
     let own = priorities[v] as usize;
     let line = test(v, owners, priorities, starts, targets, winners);
@@ -108,8 +109,8 @@ pub fn attraction(
     moves: &mut [u16],
     work: &mut [u16],
 ) -> Ended
-    requires { ⌜ Drainable 0 (now owners) (now priorities) (now starts) (now targets) (now heads) (now nexts) (now sources) (now firsts) (now lasts) (now waiting) (now levels) (now stack) (now winners) (now moves) (now work) ⌝ }
-    ensures { λ r. ⌜ Ran (now (owners .entry)) (now (priorities .entry)) (now (starts .entry)) (now (targets .entry)) (now (heads .entry)) (now (nexts .entry)) (now (sources .entry)) (now (winners .entry)) (now (moves .entry)) (now (work .entry)) (now (firsts .exit)) (now (lasts .exit)) (now (waiting .exit)) (now (levels .exit)) (now (winners .exit)) (now (moves .exit)) (now (work .exit)) r ⌝ }
+    requires { ⌜ Drainable 0 (asked owners priorities starts targets) (now heads) (now nexts) (now sources) (now firsts) (now lasts) (now waiting) (now levels) (now stack) (now winners) (now moves) (now work) ⌝ }
+    ensures { λ r. ⌜ Ran (lent owners priorities starts targets) (now (heads .entry)) (now (nexts .entry)) (now (sources .entry)) (now (winners .entry)) (now (moves .entry)) (now (work .entry)) (now (firsts .exit)) (now (lasts .exit)) (now (waiting .exit)) (now (levels .exit)) (now (winners .exit)) (now (moves .exit)) (now (work .exit)) r ⌝ }
 {
     let n = owners.len();
     let mut top: usize = 256;

@@ -6,8 +6,9 @@ use player::Player;
 use step::keep::keep;
 use step::test::test;
 use step::turn::turn;
-ghost use Rattle.step.specs.Stepping.{Engine};
-ghost use Rattle.orders.specs.Ending.{Ran, Fell};
+ghost use Rattle.game.specs.promise.Lent.{asked, lent};
+ghost use Rattle.step.specs.parts.Stepping.{Engine};
+ghost use Rattle.orders.specs.parts.Ending.{Ran, Fell};
 
 // Steps until nothing is open or the budget, one a step, is spent. It does what `step` does by itself: with that call a relay
 // game takes an eighth more instructions.
@@ -28,9 +29,9 @@ pub fn lowest(
     moves: &mut [u16],
     work: &mut [u16],
 ) -> Ended
-    requires { ⌜ Engine (now owners) (now priorities) (now starts) (now targets) (now heads) (now nexts) (now sources) (now firsts) (now lasts) (now waiting) (now levels) (now winners) (now moves) (now work) ⌝ }
-    ensures ran { λ r. ⌜ Ran (now (owners .entry)) (now (priorities .entry)) (now (starts .entry)) (now (targets .entry)) (now (heads .entry)) (now (nexts .entry)) (now (sources .entry)) (now (winners .entry)) (now (moves .entry)) (now (work .entry)) (now (firsts .exit)) (now (lasts .exit)) (now (waiting .exit)) (now (levels .exit)) (now (winners .exit)) (now (moves .exit)) (now (work .exit)) r ⌝ }
-    ensures fell { λ r. ⌜ Fell budget (now (owners .entry)) (now (priorities .entry)) (now (starts .entry)) (now (targets .entry)) (now (winners .entry)) (now (work .entry)) (now (winners .exit)) (now (work .exit)) r ⌝ }
+    requires { ⌜ Engine (asked owners priorities starts targets) (now heads) (now nexts) (now sources) (now firsts) (now lasts) (now waiting) (now levels) (now winners) (now moves) (now work) ⌝ }
+    ensures ran { λ r. ⌜ Ran (lent owners priorities starts targets) (now (heads .entry)) (now (nexts .entry)) (now (sources .entry)) (now (winners .entry)) (now (moves .entry)) (now (work .entry)) (now (firsts .exit)) (now (lasts .exit)) (now (waiting .exit)) (now (levels .exit)) (now (winners .exit)) (now (moves .exit)) (now (work .exit)) r ⌝ }
+    ensures fell { λ r. ⌜ Fell budget (lent owners priorities starts targets) (now (winners .entry)) (now (work .entry)) (now (winners .exit)) (now (work .exit)) r ⌝ }
 {
     let n = owners.len();
     let mut low: usize = 0;

@@ -1,1 +1,1 @@
-pub mod Player
+pub mod promise

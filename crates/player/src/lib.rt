@@ -1,6 +1,6 @@
-// A player is Even (0) or Odd (1), each the opponent of the other.
+// The two players, by the bytes that name them: 0 for Even, 1 for Odd.
 ghost use mathlib.Core.Path.{_≡_};
-ghost use Rattle.player.specs.Player.{opponentOf, parityOf};
+ghost use Rattle.player.specs.promise.Player.{opponentOf, parityOf};
 
 pub struct Player {
     pub bit: u8,

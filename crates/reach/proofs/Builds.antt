@@ -6,10 +6,10 @@ use native.Mathlib.Omega.{arith}
 use native.Mathlib.Decide.{decLt}
 use native.Mathlib.Nat.{not-suc-le-zero}
 use lib.ListN.{length, getD}
-use Rattle.game.specs.Tables.{nextOf}
+use Rattle.game.specs.promise.Tables.{nextOf}
 use Rattle.game.proofs.Starts.{stretch-of, stretch-length, stretch-at}
-use Rattle.reach.specs.Lists.{nil, Filled}
-use Rattle.reach.specs.Build.{Buildable, Built, Linked, Linkable, Linking}
+use Rattle.reach.specs.parts.Lists.{nil, Filled}
+use Rattle.reach.specs.parts.Build.{Buildable, Built, Linked, Linkable, Linking}
 use Rattle.reach.proofs.Links.{linked-none, linked-to}
 use Rattle.reach.proofs.Owners.{Owner, edges-of}
 

@@ -5,7 +5,7 @@ use mathlib.Core.List.{List}
 use native.Mathlib.Omega.{arith}
 use native.Mathlib.Decide.{ℕ-discrete, decLt}
 use lib.ListN.{length, getD}
-use Rattle.reach.specs.Lists.{nil, Latest, Preds}
+use Rattle.reach.specs.parts.Lists.{nil, Latest, Preds}
 
 -- the cursor is at the last edge with the key k below a bound, and all such edges from the bound on are done
 pub record Passed (keys : List ℕ) (k : ℕ) (done : ℕ → Type 0) (cursor : ℕ) : Type 0 where

@@ -7,10 +7,10 @@ use native.Mathlib.Omega.{arith}
 use native.Mathlib.Decide.{ℕ-discrete}
 use lib.ListN.{length, getD, set, length-set}
 use lib.Seq.{getD-set-same, getD-set-other}
-use Rattle.reach.specs.Lists.{Filled}
-use Rattle.reach.specs.Closure.{Queued}
-use Rattle.reach.specs.Work.{section, Beside}
-use Rattle.reach.specs.Queue.{ClearableIn, ClearedIn}
+use Rattle.reach.specs.parts.Lists.{Filled}
+use Rattle.reach.specs.parts.Closure.{Queued}
+use Rattle.reach.specs.parts.Work.{section, Beside}
+use Rattle.reach.specs.parts.Queue.{ClearableIn, ClearedIn}
 use Rattle.reach.proofs.Sections.{section-read, Stored, stored, beside-none, beside-more, beside-stored}
 use Rattle.reach.proofs.Queues.{tail-bounded}
 

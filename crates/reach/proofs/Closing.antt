@@ -7,10 +7,10 @@ use native.Mathlib.Omega.{arith}
 use native.Mathlib.Nat.{not-suc-le-zero}
 use native.Mathlib.Decide.{decLt}
 use lib.ListN.{length, getD}
-use Rattle.winning.specs.Walk.{stay, step}
-use Rattle.reach.specs.Closure.{Allowed, Queued, Reason}
-use Rattle.reach.specs.Work.{section, Beside}
-use Rattle.reach.specs.Queue.{Closable, Closed, Visitable, Grown, Visited, ClosableIn, ClosedIn, VisitableIn, VisitedIn}
+use Rattle.winning.specs.promise.Walk.{stay, step}
+use Rattle.reach.specs.parts.Closure.{Allowed, Queued, Reason}
+use Rattle.reach.specs.parts.Work.{section, Beside}
+use Rattle.reach.specs.parts.Queue.{Closable, ClosedQueue, Visitable, Grown, Visited, ClosableIn, ClosedIn, VisitableIn, VisitedIn}
 use Rattle.reach.proofs.Queues.{tail-bounded}
 use Rattle.reach.proofs.Sections.{section-read, beside-none, beside-more}
 
@@ -62,7 +62,7 @@ module _ {n : ℕ} {keys heads nexts sources level choice reached₀ queue₀ : 
           let e : i ≡ h = omega arith in
           d .all v (subst (λ (k : ℕ). Allowed keys sources level choice bound v (getD queue k 0)) e a)
 
-  pub closing-all : end ≤ h → Closed n keys sources level choice bound reached₀ reached queue end
+  pub closing-all : end ≤ h → ClosedQueue n keys sources level choice bound reached₀ reached queue end
   closing-all l =
       record {
         queued = c .queued;

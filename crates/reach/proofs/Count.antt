@@ -8,7 +8,7 @@ use native.Mathlib.Decide.{ℕ-discrete}
 use native.Mathlib.Nat.{not-suc-le-zero}
 use lib.ListN.{length, getD, set}
 use lib.Seq.{getD-set-same, getD-set-other}
-use Rattle.reach.specs.Closure.{count}
+use Rattle.reach.specs.parts.Closure.{count}
 
 pub count-bounded : (n : ℕ) (cells : List ℕ) → count n cells ≤ n
 count-bounded zero cells = omega arith

@@ -5,10 +5,10 @@ use mathlib.Core.List.{List}
 use native.Mathlib.Omega.{arith}
 use native.Mathlib.Decide.{decLt}
 use lib.ListN.{length, getD}
-use Rattle.game.specs.Game.{Edge}
-use Rattle.game.specs.Tables.{nextOf, gameOf, Placed}
+use Rattle.game.specs.promise.Game.{Edge}
+use Rattle.game.specs.promise.Tables.{tablesOf, nextOf, gameOf, Placed}
 use Rattle.game.proofs.Starts.{onward-from, stretch-of, stretch-length, stretch-place, stretch-at}
-use Rattle.reach.specs.Lists.{Into, EdgesOf}
+use Rattle.reach.specs.parts.Lists.{Into, EdgesOf}
 
 -- edge e stands in the stretch of v
 pub record Owner (n : ℕ) (starts : List ℕ) (v e : ℕ) : Type 0 where
@@ -28,7 +28,7 @@ pub edges-of : (n : ℕ) (starts targets sources : List ℕ) → Placed n starts
 edges-of n starts targets sources p target owner =
     record { number = number; edge = edge }
   where
-    number : (owners priorities : List ℕ) → length owners ≡ n → (v w : ℕ) → Edge (gameOf owners priorities starts targets) v w → Into targets sources v w
+    number : (owners priorities : List ℕ) → length owners ≡ n → (v w : ℕ) → Edge (gameOf (tablesOf owners priorities starts targets)) v w → Into targets sources v w
     number owners priorities long v w g =
         let l : v < n = omega (arith, g .from, long) in
         let i = g .listed .at in
@@ -46,7 +46,7 @@ edges-of n starts targets sources p target owner =
               };
         }
 
-    edge : (owners priorities : List ℕ) → length owners ≡ n → (v w : ℕ) → Into targets sources v w → Edge (gameOf owners priorities starts targets) v w
+    edge : (owners priorities : List ℕ) → length owners ≡ n → (v w : ℕ) → Into targets sources v w → Edge (gameOf (tablesOf owners priorities starts targets)) v w
     edge owners priorities long v w t =
         let e = t .number in
         let m : e < length targets = t .is .within in

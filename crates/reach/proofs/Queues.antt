@@ -7,10 +7,10 @@ use native.Mathlib.Decide.{ℕ-discrete}
 use native.Mathlib.Nat.{not-suc-le-zero}
 use lib.ListN.{length, getD, set, length-set}
 use lib.Seq.{getD-set-same, getD-set-other}
-use Rattle.reach.specs.Lists.{Filled}
-use Rattle.reach.specs.Closure.{Queued}
-use Rattle.reach.specs.Work.{section}
-use Rattle.reach.specs.Queue.{Seedable, Pushed, SeedableIn, PushedIn, ClearedIn}
+use Rattle.reach.specs.parts.Lists.{Filled}
+use Rattle.reach.specs.parts.Closure.{Queued}
+use Rattle.reach.specs.parts.Work.{section}
+use Rattle.reach.specs.parts.Queue.{Seedable, Pushed, SeedableIn, PushedIn, ClearedIn}
 use Rattle.reach.proofs.Stores.{at-set}
 use Rattle.reach.proofs.Sections.{section-long, section-filled, Stored, stored, beside-more, beside-stored}
 use Rattle.reach.proofs.Count.{count-bounded, count-none, count-set, count-room}
@@ -39,7 +39,7 @@ tail-bounded {n} {reached} q = omega (arith, q .counted, count-bounded n reached
 pub room : {n v : ℕ} {reached queue : List ℕ} {tail : ℕ} → Seedable n v reached queue tail → tail < n
 room {n} {v} {reached} s =
     let q = s .queued in
-    omega (arith, q .counted, count-room n reached v (s .vertex) (omega (arith, s .vertex, q .reached-long)) (s .unmarked))
+    omega (arith, q .counted, count-room n reached v (s .vertex) (omega (arith, s .vertex, q .reached-long)) (s .unreached))
 
 pub pushed : (n v : ℕ) (reached queue : List ℕ) (tail : ℕ) → Seedable n v reached queue tail → Pushed n v reached queue tail (set reached v 1) (set queue tail v) (tail + 1)
 pushed n v reached queue tail s =
@@ -50,7 +50,7 @@ pushed n v reached queue tail s =
             reached-long = length-set reached v 1 ∙ q .reached-long;
             queue-long = length-set queue tail v ∙ q .queue-long;
             flag = λ u l. at-set (λ k x. x ≤ 1) reached v 1 in-reached (omega arith) u (λ ne. q .flag u l);
-            counted = ap (λ (k : ℕ). k + 1) (q .counted) ∙ sym (count-set n reached v (s .vertex) in-reached (s .unmarked));
+            counted = ap (λ (k : ℕ). k + 1) (q .counted) ∙ sym (count-set n reached v (s .vertex) in-reached (s .unreached));
             vertex = λ i l. at-set (λ k x. x < n) queue tail v in-queue (s .vertex) i (λ ne. q .vertex i (omega arith));
             marked = λ i l. at-set (λ k x. getD (set reached v 1) x 0 ≡ 1) queue tail v in-queue here i (λ ne. kept _ (q .marked i (omega arith)));
             place = λ u l m. place u l m (ℕ-discrete u v);
@@ -85,7 +85,7 @@ pushed n v reached queue tail s =
 
 -- the same of the tail that the push returns
 pub pushed-queued : {n v : ℕ} {reached queue : List ℕ} {tail : ℕ} {reached′ queue′ : List ℕ} {r : ℕ} → Pushed n v reached queue tail reached′ queue′ r → Queued n reached′ queue′ r
-pushed-queued {n} {reached′ = marks} {queue′ = places} q = subst (λ (k : ℕ). Queued n marks places k) (sym (q .one-more)) (q .queued)
+pushed-queued {n} {reached′ = reached} {queue′ = places} q = subst (λ (k : ℕ). Queued n reached places k) (sym (q .one-more)) (q .queued)
 
 -- The same in the work space.
 
@@ -103,7 +103,7 @@ cleared-queued long c = fresh-in _ _ (c .beside .long ∙ long) (c .filled)
 pub pushed-in : {n v : ℕ} {work : List ℕ} {tail : ℕ} → SeedableIn n v work tail → PushedIn n v work tail (set (set work (n + v) 1) (2 * n + tail) v) (tail + 1)
 pushed-in {n} {v} {work} {tail} s =
     record {
-      pushed = rw (marks, places) (pushed n v _ _ tail (s .seedable));
+      pushed = rw (reached, places) (pushed n v _ _ tail (s .seedable));
       beside = beside-more (beside-stored (omega arith) (omega arith) mark) (beside-stored (omega arith) (omega arith) place);
     }
   where
@@ -119,8 +119,8 @@ pushed-in {n} {v} {work} {tail} s =
     place : Stored n 2 tail v middle after
     place = stored 2 tail (mark .long ∙ s .long) refl (omega arith) (room (s .seedable))
 
-    marks : section 1 n after ≡ set (section 1 n work) v 1
-    marks = place .other 1 (omega arith) (omega arith) ∙ mark .here
+    reached : section 1 n after ≡ set (section 1 n work) v 1
+    reached = place .other 1 (omega arith) (omega arith) ∙ mark .here
 
     places : section 2 n after ≡ set (section 2 n work) tail v
     places = place .here ∙ ap (λ (l : List ℕ). set l tail v) (mark .other 2 (omega arith) (omega arith))

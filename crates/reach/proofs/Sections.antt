@@ -8,8 +8,8 @@ use native.Mathlib.Decide.{decLt}
 use native.Mathlib.Nat.{mul-le-mul-right, add-mul, one-mul}
 use lib.ListN.{length, getD, take, drop, set, length-take, length-drop, length-set}
 use lib.Seq.{getD-take, getD-drop, take-set-lt, drop-set-add, getD-set-other, ext-getD}
-use Rattle.reach.specs.Lists.{Filled}
-use Rattle.reach.specs.Work.{section, Beside}
+use Rattle.reach.specs.parts.Lists.{Filled}
+use Rattle.reach.specs.parts.Work.{section, Beside}
 
 -- a later section begins where an earlier one has ended
 after : (j k n : ℕ) → j < k → j * n + n ≤ k * n

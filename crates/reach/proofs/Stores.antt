@@ -8,8 +8,8 @@ use native.Mathlib.Decide.{ℕ-discrete}
 use native.Mathlib.Nat.{not-suc-le-zero}
 use lib.ListN.{length, getD, set, length-set}
 use lib.Seq.{getD-set-same, getD-set-other}
-use Rattle.game.specs.Buffers.{Zeroed}
-use Rattle.reach.specs.Lists.{Filled}
+use Rattle.game.specs.promise.Lent.{Zeroed}
+use Rattle.reach.specs.parts.Lists.{Filled}
 
 -- what holds of the new value at its place, and of the old values elsewhere, holds after the store
 pub at-set : (P : ℕ → ℕ → Type 0) (l : List ℕ) (i v : ℕ) → i < length l → P i v → (k : ℕ) → (k ≢ i → P k (getD l k 0)) → P k (getD (set l i v) k 0)

@@ -4,15 +4,15 @@ use mathlib.Core.Path.{_≡_}
 use mathlib.Core.List.{List}
 use native.Mathlib.Omega.{arith}
 use lib.ListN.{length}
-use Rattle.game.specs.Tables.{WellFormed}
+use Rattle.game.specs.promise.Tables.{WellFormed, Tables, vertices}
 use Rattle.game.proofs.WellFormed.{targets-inside}
-use Rattle.reach.specs.Build.{Buildable}
+use Rattle.reach.specs.parts.Build.{Buildable}
 
-pub buildable : (owners priorities starts targets heads nexts sources : List ℕ) → WellFormed owners priorities starts targets → length heads ≡ 2048 → length nexts ≡ 16384 → length sources ≡ 16384 → Buildable (length owners) starts targets heads nexts sources
-buildable owners priorities starts targets heads nexts sources w h n s =
+pub buildable : (tables : Tables) (heads nexts sources : List ℕ) → WellFormed tables → length heads ≡ 2048 → length nexts ≡ 16384 → length sources ≡ 16384 → Buildable (vertices tables) (tables .starts) (tables .targets) heads nexts sources
+buildable tables heads nexts sources w h n s =
     record {
       placed = w .placed;
-      target = targets-inside owners priorities starts targets w;
+      target = targets-inside tables w;
       few = w .edges;
       small = w .sound .few;
       heads-long = omega (arith, w .sound .few);

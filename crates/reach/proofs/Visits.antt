@@ -1,4 +1,4 @@
--- A visit to w walks the edges into it: marks and queue grow by the starts of allowed steps, and none is passed over.
+-- A visit to w walks the edges into it: what is reached and the queue grow by the starts of allowed steps, and none is passed over.
 use Prim.Native.Nat.{ℕ, _+_, _*_, _<_, _≤_}
 use mathlib.Core.Path.{_≡_, refl, sym, subst, ap, _∙_}
 use mathlib.Core.Logic.{_≢_, _⊎_, inl, inr}
@@ -6,10 +6,10 @@ use mathlib.Core.List.{List}
 use native.Mathlib.Omega.{arith}
 use native.Mathlib.Decide.{ℕ-discrete}
 use lib.ListN.{length, getD}
-use Rattle.reach.specs.Lists.{nil, Preds}
-use Rattle.reach.specs.Closure.{Allowed}
-use Rattle.reach.specs.Work.{section, Beside}
-use Rattle.reach.specs.Queue.{Seedable, Pushed, Visitable, Grown, Visited, SeedableIn, PushedIn, VisitableIn, VisitedIn}
+use Rattle.reach.specs.parts.Lists.{nil, Preds}
+use Rattle.reach.specs.parts.Closure.{Allowed}
+use Rattle.reach.specs.parts.Work.{section, Beside}
+use Rattle.reach.specs.parts.Queue.{Seedable, Pushed, Visitable, Grown, Visited, SeedableIn, PushedIn, VisitableIn, VisitedIn}
 use Rattle.reach.proofs.Sections.{section-read, beside-none, beside-more}
 use Rattle.reach.proofs.Queues.{pushed-queued}
 use Rattle.reach.proofs.Chains.{Passed, passed-none, cursor-edge, passed-more, passed-all}
@@ -67,7 +67,7 @@ module _ {n w : ℕ} {keys heads nexts sources level choice reached₀ queue₀ 
     -- the edge's start can be pushed
     pub seedable : getD reached (getD sources e 0) 0 ≡ 0 → Seedable n (getD sources e 0) reached queue end
     seedable z =
-        record { queued = h .grown .queued; vertex = visiting-source; unmarked = z; small = p .closable .small }
+        record { queued = h .grown .queued; vertex = visiting-source; unreached = z; small = p .closable .small }
 
     pub push : {reached′ queue′ : List ℕ} {r : ℕ} → getD level (getD sources e 0) 0 ≤ bound → (getD choice (getD sources e 0) 0 ≢ nil → w ≡ getD choice (getD sources e 0) 0) → Pushed n (getD sources e 0) reached queue end reached′ queue′ r → Visiting n w keys sources level choice bound reached₀ queue₀ tail reached′ queue′ (getD nexts e 0) r
     push {reached′} {queue′} {r} low fixed q =

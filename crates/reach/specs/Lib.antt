@@ -1,5 +1,1 @@
-pub mod Lists
-pub mod Closure
-pub mod Build
-pub mod Work
-pub mod Queue
+pub mod parts

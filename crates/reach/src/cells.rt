@@ -1,7 +1,7 @@
 // Cells of a lent list.
 ghost use mathlib.Core.Path.{_≡_};
 ghost use lib.ListN.{length};
-ghost use Rattle.reach.specs.Lists.{Filled};
+ghost use Rattle.reach.specs.parts.Lists.{Filled};
 
 pub fn fill(cells: &mut [u16], value: u16)
     ensures long { λ _. ⌜ length (now (cells .exit)) ≡ length (now (cells .entry)) ⌝ }

@@ -1,6 +1,7 @@
 // The closure backwards: all vertices from which allowed steps lead to a seed, in a queue.
-// The work space is four sections of n cells: levels, marks, queue, and one that is left alone.
-ghost use Rattle.reach.specs.Queue.{SeedableIn, PushedIn, ClosableIn, ClosedIn, VisitableIn, VisitedIn, ClearableIn, ClearedIn};
+// The work space is four sections of n cells: levels, what is reached, queue, and one that is left alone.
+use game::NIL;
+ghost use Rattle.reach.specs.parts.Queue.{SeedableIn, PushedIn, ClosableIn, ClosedIn, VisitableIn, VisitedIn, ClearableIn, ClearedIn};
 
 // One more seed.
 pub fn seed(n: usize, v: usize, work: &mut [u16], tail: usize) -> usize
@@ -12,7 +13,7 @@ pub fn seed(n: usize, v: usize, work: &mut [u16], tail: usize) -> usize
     tail + 1
 }
 
-// Walks the edges into w, marks and queues where an allowed step starts, and returns the new tail.
+// Walks the edges into w, what is reached and the queues where an allowed step starts, and returns the new tail.
 fn visit(
     n: usize,
     w: usize,
@@ -30,12 +31,12 @@ fn visit(
 {
     let mut e = heads[w] as usize;
     let mut end = tail;
-    while e < 65535 {
+    while e < NIL {
         let u = sources[e] as usize;
         e = nexts[e] as usize;
         if work[n + u] == 0 && work[u] <= bound {
             let fixed = choice[u] as usize;
-            if fixed == 65535 || fixed == w {
+            if fixed == NIL || fixed == w {
                 end = seed(n, u, work, end);
             }
         }
@@ -43,7 +44,7 @@ fn visit(
     end
 }
 
-// Marks whatever leads to the marked vertices by allowed steps; the result is the number of marked vertices.
+// Marks whatever leads to the reached vertices by allowed steps; the result is the number of reached vertices.
 pub fn close(
     n: usize,
     keys: &[u16],

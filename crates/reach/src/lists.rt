@@ -1,10 +1,11 @@
 // The predecessor lists: built once for a game, over the vertices and their stretches.
 use crate::cells::fill;
+use game::NONE;
 use game::vertex::successors;
 ghost use mathlib.Core.Path.{_≡_};
 ghost use Prim.Native.Nat.{_+_};
 ghost use lib.ListN.{length};
-ghost use Rattle.reach.specs.Build.{Buildable, Built, Linkable, Linking};
+ghost use Rattle.reach.specs.parts.Build.{Buildable, Built, Linkable, Linking};
 
 // Links in the edges of one vertex, numbered on from `from`, and returns the next edge's number.
 fn link_stretch(
@@ -44,7 +45,7 @@ pub fn predecessors(
     requires { ⌜ Buildable n (now starts) (now targets) (now heads) (now nexts) (now sources) ⌝ }
     ensures { λ _. ⌜ Built n (now (starts .entry)) (now (targets .entry)) (now (heads .entry)) (now (nexts .entry)) (now (sources .entry)) (now (heads .exit)) (now (nexts .exit)) (now (sources .exit)) ⌝ }
 {
-    fill(heads, 65535);
+    fill(heads, NONE);
     let mut e = 0;
     let mut v = 0;
     while v < n {

@@ -1,3 +1,2 @@
-pub mod Number
-pub mod Row
-pub mod Found
+pub mod promise
+pub mod parts

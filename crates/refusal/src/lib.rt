@@ -1,10 +1,12 @@
-// Every refusal carries its number and its place: a struct of the kind, an enum, and the place.
+// Every refusal carries its kind, an enum that gives its number, and its place. docs/RULES.md has the table.
 ghost use mathlib.Core.Path.{_≡_};
-ghost use Rattle.refusal.specs.Number.{numberOf};
+ghost use Prim.Native.Nat.{_+_, _<_};
+ghost use Rattle.refusal.specs.promise.Number.{numberOf, tableNumber, answerNumber, fileNumber};
+ghost use Rattle.refusal.specs.parts.Found.{Joins};
 
-// What a refusal is given for, in the order of the paper's numbers.
-pub enum Kind {
-    // 1: n is 0 or over 2,048, or the tables' lengths do not fit one another.
+// What is wrong with a game's tables: 1 to 7, and 21 to 27 of the second game.
+pub enum TableFault {
+    // 1: no vertex, too many, or lengths that do not fit one another.
     Sizes,
     // 2: an owner is neither Even nor Odd.
     Owner,
@@ -16,12 +18,12 @@ pub enum Kind {
     Stuck,
     // 6: a target is no vertex.
     Target,
-    // 7: a target is not above the one before it in the same vertex.
+    // 7: a stretch does not ascend.
     Order,
-    // 8: a lent buffer is not of its fixed length.
-    Buffer,
-    // 9: the two games of an update differ in n.
-    Vertices,
+}
+
+// What is wrong with an answer: 11 to 14.
+pub enum AnswerFault {
     // 11: a mark is neither 0 nor 1.
     Mark,
     // 12: a recorded move is wrong.
@@ -30,24 +32,36 @@ pub enum Kind {
     Escape,
     // 14: a cycle by the recorded moves is lost.
     Cycle,
-    // 21 to 27: the second game of an update has fault 1 to 7.
-    SecondSizes,
-    SecondOwner,
-    SecondPriority,
-    SecondStart,
-    SecondStuck,
-    SecondTarget,
-    SecondOrder,
-    // 41: a file's length is wrong.
-    FileLength,
-    // 42: a block's check is wrong.
-    BlockCheck,
-    // 43: a block's number or kind is wrong.
-    BlockKind,
-    // 44: a block's other bytes are wrong.
-    BlockBytes,
-    // 45: the successor counts do not add up to the number of edges.
-    EdgeCount,
+}
+
+// What is wrong with a file: 41 to 45.
+pub enum FileFault {
+    // 41: its length.
+    Length,
+    // 42: a block's check.
+    Check,
+    // 43: a block's number or kind.
+    Kind,
+    // 44: another byte of a block.
+    Bytes,
+    // 45: the sum of the successor counts.
+    Edges,
+}
+
+// What a refusal is given for, by family.
+pub enum Kind {
+    // 1 to 7.
+    Game(TableFault),
+    // 8: a lent list is not of its fixed length.
+    Buffer,
+    // 9: the two games of an update differ in n.
+    Vertices,
+    // 11 to 14.
+    Claim(AnswerFault),
+    // 21 to 27.
+    Second(TableFault),
+    // 41 to 45.
+    Filed(FileFault),
 }
 
 pub struct Refusal {
@@ -61,35 +75,79 @@ pub enum Found {
     Nowhere,
 }
 
-// The paper's number of a kind.
+// What tests say: none of their rows applies, or the first that does.
+pub enum Tested {
+    Passed,
+    Refused(Refusal),
+}
+
+// What was said so far, or else the refusal for what is found.
+pub fn or(said: Tested, found: Found, kind: Kind) -> Tested
+    ensures { λ r. ⌜ Joins said found kind r ⌝ }
+{
+    if let Tested::Refused(r) = said {
+        return Tested::Refused(r);
+    }
+    match found {
+        Found::At(place) => Tested::Refused(Refusal { kind, place }),
+        Found::Nowhere => Tested::Passed,
+    }
+}
+
+fn of_table(fault: TableFault) -> u64
+    ensures named { λ r. ⌜ r ≡ tableNumber fault ⌝ }
+    ensures small { λ r. ⌜ r < 8 ⌝ }
+{
+    match fault {
+        TableFault::Sizes => 1,
+        TableFault::Owner => 2,
+        TableFault::Priority => 3,
+        TableFault::Start => 4,
+        TableFault::Stuck => 5,
+        TableFault::Target => 6,
+        TableFault::Order => 7,
+    }
+}
+
+fn of_second(fault: TableFault) -> u64
+    ensures { λ r. ⌜ r ≡ 20 + tableNumber fault ⌝ }
+{
+    20 + of_table(fault)
+}
+
+fn of_answer(fault: AnswerFault) -> u64
+    ensures { λ r. ⌜ r ≡ answerNumber fault ⌝ }
+{
+    match fault {
+        AnswerFault::Mark => 11,
+        AnswerFault::Move => 12,
+        AnswerFault::Escape => 13,
+        AnswerFault::Cycle => 14,
+    }
+}
+
+fn of_file(fault: FileFault) -> u64
+    ensures { λ r. ⌜ r ≡ fileNumber fault ⌝ }
+{
+    match fault {
+        FileFault::Length => 41,
+        FileFault::Check => 42,
+        FileFault::Kind => 43,
+        FileFault::Bytes => 44,
+        FileFault::Edges => 45,
+    }
+}
+
+// The number of a kind.
 pub fn number(kind: Kind) -> u64
     ensures { λ r. ⌜ r ≡ numberOf kind ⌝ }
 {
     match kind {
-        Kind::Sizes => 1,
-        Kind::Owner => 2,
-        Kind::Priority => 3,
-        Kind::Start => 4,
-        Kind::Stuck => 5,
-        Kind::Target => 6,
-        Kind::Order => 7,
+        Kind::Game(fault) => of_table(fault),
         Kind::Buffer => 8,
         Kind::Vertices => 9,
-        Kind::Mark => 11,
-        Kind::Move => 12,
-        Kind::Escape => 13,
-        Kind::Cycle => 14,
-        Kind::SecondSizes => 21,
-        Kind::SecondOwner => 22,
-        Kind::SecondPriority => 23,
-        Kind::SecondStart => 24,
-        Kind::SecondStuck => 25,
-        Kind::SecondTarget => 26,
-        Kind::SecondOrder => 27,
-        Kind::FileLength => 41,
-        Kind::BlockCheck => 42,
-        Kind::BlockKind => 43,
-        Kind::BlockBytes => 44,
-        Kind::EdgeCount => 45,
+        Kind::Claim(fault) => of_answer(fault),
+        Kind::Second(fault) => of_second(fault),
+        Kind::Filed(fault) => of_file(fault),
     }
 }

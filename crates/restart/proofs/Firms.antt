@@ -1,4 +1,4 @@
--- Making the unmarked vertices firm one by one.
+-- Making the unreached vertices firm one by one.
 use Prim.Native.Nat.{ℕ, _+_, _*_, _<_, _≤_}
 use mathlib.Core.Path.{_≡_, refl, ap, subst, _∙_}
 use mathlib.Core.Logic.{_≢_}
@@ -7,12 +7,12 @@ use native.Mathlib.Omega.{arith}
 use native.Mathlib.Decide.{ℕ-discrete}
 use native.Mathlib.Nat.{not-suc-le-zero}
 use lib.ListN.{length, getD}
-use Rattle.reach.specs.Work.{section}
+use Rattle.reach.specs.parts.Work.{section}
 use Rattle.reach.proofs.Sections.{section-read}
-use Rattle.levels.specs.Levels.{levelOf, LevelSet}
-use Rattle.restart.specs.Restarting.{Firmed}
+use Rattle.levels.specs.parts.Levels.{levelOf, LevelSet}
+use Rattle.restart.specs.parts.Restarting.{Firmed}
 
--- the unmarked vertices below v have a level above all priorities
+-- the unreached vertices below v have a level above all priorities
 pub record Firming (n : ℕ) (levels₀ work levels : List ℕ) (v : ℕ) : Type 0 where
   pub long : length levels ≡ length levels₀
   pub firm : (u : ℕ) → u < n → u < v → getD (section 1 n work) u 0 ≡ 0 → levelOf levels u ≡ 256

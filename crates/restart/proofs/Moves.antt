@@ -5,20 +5,21 @@ use mathlib.Core.List.{List}
 use native.Mathlib.Omega.{arith}
 use lib.ListN.{length}
 use Rattle.game.proofs.Stores.{room-is}
+use Rattle.game.specs.promise.Tables.{Tables, vertices}
 use Rattle.pick.proofs.Picking.{standing-lines}
-use Rattle.step.specs.Stepping.{Engine, Moved}
-use Rattle.restart.specs.Restarting.{Restartable, RestartedIn}
+use Rattle.step.specs.parts.Stepping.{Engine, Moved}
+use Rattle.restart.specs.parts.Restarting.{Restartable, RestartedIn}
 use Rattle.restart.proofs.Resets.{safe, levelled, carried}
 
 module _
-    {owners priorities starts targets heads nexts sources firsts lasts waiting levels winners moves work : List ℕ}
-    (s : Engine owners priorities starts targets heads nexts sources firsts lasts waiting levels winners moves work)
+    {tables : Tables} {heads nexts sources firsts lasts waiting levels winners moves work : List ℕ}
+    (s : Engine tables heads nexts sources firsts lasts waiting levels winners moves work)
   where
-    level : length priorities ≡ length owners
+    level : length (tables .priorities) ≡ vertices tables
     level = s .state .well-formed .level
 
     -- the fresh start asks what the engine has
-    pub restartable : Restartable (length priorities) priorities targets heads nexts sources moves firsts lasts waiting levels winners work
+    pub restartable : Restartable (length (tables .priorities)) (tables .priorities) (tables .targets) heads nexts sources moves firsts lasts waiting levels winners work
     restartable =
         rw level
         (record {
@@ -27,15 +28,15 @@ module _
           room = s .state .winners-long;
           levels-long = omega (arith, s .levels-long, s .standing .small);
           moves-long = s .state .moves-long;
-          unmarked = s .state .unmarked;
+          unreached = s .state .unreached;
           preds = s .preds;
         })
 
     -- and gives an engine in which every kept set is kept
     pub restarted-moved :
         {firsts′ lasts′ waiting′ levels′ winners′ work′ : List ℕ} →
-        RestartedIn (length priorities) priorities targets sources moves levels winners work firsts′ lasts′ waiting′ levels′ winners′ work′ →
-        Moved owners priorities starts targets heads nexts sources winners moves work firsts′ lasts′ waiting′ levels′ winners′ moves work′
+        RestartedIn (length (tables .priorities)) (tables .priorities) (tables .targets) sources moves levels winners work firsts′ lasts′ waiting′ levels′ winners′ work′ →
+        Moved tables heads nexts sources winners moves work firsts′ lasts′ waiting′ levels′ winners′ moves work′
     restarted-moved {firsts′} {lasts′} {waiting′} {levels′} {winners′} {work′} t₀ =
         record {
           engine =
@@ -46,7 +47,7 @@ module _
                       winners-long = t .room ∙ s .state .winners-long;
                       moves-long = s .state .moves-long;
                       work-long = t .long ∙ s .state .work-long;
-                      unmarked = t .unmarked;
+                      unreached = t .unreached;
                       safe = safe s t;
                     };
                 preds = s .preds;
@@ -60,5 +61,5 @@ module _
           carried = carried s t;
         }
       where
-        t : RestartedIn (length owners) priorities targets sources moves levels winners work firsts′ lasts′ waiting′ levels′ winners′ work′
-        t = subst (λ (x : ℕ). RestartedIn x priorities targets sources moves levels winners work firsts′ lasts′ waiting′ levels′ winners′ work′) level t₀
+        t : RestartedIn (vertices tables) (tables .priorities) (tables .targets) sources moves levels winners work firsts′ lasts′ waiting′ levels′ winners′ work′
+        t = subst (λ (x : ℕ). RestartedIn x (tables .priorities) (tables .targets) sources moves levels winners work firsts′ lasts′ waiting′ levels′ winners′ work′) level t₀

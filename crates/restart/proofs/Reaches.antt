@@ -4,12 +4,13 @@ use mathlib.Core.Path.{_≡_, subst}
 use mathlib.Core.Logic.{_≢_}
 use mathlib.Core.List.{List}
 use lib.ListN.{getD}
-use Rattle.winning.specs.Walk.{Walk, follow}
-use Rattle.reach.specs.Lists.{Preds}
-use Rattle.reach.specs.Closure.{Allowed, ClosedFrom}
-use Rattle.reach.specs.Work.{section}
-use Rattle.reach.specs.Queue.{ClosedIn}
-use Rattle.restart.specs.Restarting.{SeededAll, OpenReached}
+use Rattle.winning.specs.promise.Walk.{Walk}
+use Rattle.winning.proofs.Walks.{follow}
+use Rattle.reach.specs.parts.Lists.{Preds}
+use Rattle.reach.specs.parts.Closure.{Allowed, ClosedFrom}
+use Rattle.reach.specs.parts.Work.{section}
+use Rattle.reach.specs.parts.Queue.{ClosedIn}
+use Rattle.restart.specs.parts.Restarting.{SeededAll, OpenReached}
 
 module _
     {n : ℕ} {targets heads nexts sources moves work work₁ work₂ : List ℕ} {tail end : ℕ}

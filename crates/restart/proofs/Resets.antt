@@ -3,35 +3,35 @@ use Prim.Native.Nat.{ℕ, _<_}
 use mathlib.Core.Path.{_≡_, refl}
 use mathlib.Core.List.{List}
 use native.Mathlib.Decide.{ℕ-discrete}
-use lib.ListN.{length, getD}
-use Rattle.game.specs.Game.{Game, Edge}
-use Rattle.game.specs.Tables.{gameOf}
-use Rattle.game.specs.Answer.{markOf, moveOf}
-use Rattle.winning.specs.Walk.{follow, follow-back}
-use Rattle.justification.specs.Safe.{Support, Safe, Above, Levelled}
-use Rattle.justification.specs.Step.{Same, Reset, Downward}
+use lib.ListN.{getD}
+use Rattle.game.specs.promise.Game.{Game, Edge}
+use Rattle.game.specs.promise.Tables.{gameOf, Tables, vertices}
+use Rattle.game.specs.promise.Answer.{markOf, moveOf}
+use Rattle.winning.proofs.Walks.{follow, follow-back}
+use Rattle.justification.specs.parts.Safe.{Support, Safe, Above, Levelled}
+use Rattle.justification.specs.parts.Step.{Same, Reset, Downward}
 use Rattle.justification.proofs.Lines.{within}
 use Rattle.justification.proofs.ResetStep.{resets, reset-above}
-use Rattle.reach.specs.Closure.{Allowed}
-use Rattle.reach.specs.Work.{section}
-use Rattle.levels.specs.Levels.{settledOf, levelOf}
+use Rattle.reach.specs.parts.Closure.{Allowed}
+use Rattle.reach.specs.parts.Work.{section}
+use Rattle.levels.specs.parts.Levels.{settledOf, levelOf}
 use Rattle.levels.proofs.Flags.{flag-settled, settled-flag, same-settled}
-use Rattle.step.specs.State.{KeptSet, Carried}
-use Rattle.step.specs.Stepping.{Engine}
+use Rattle.step.specs.parts.State.{KeptSet, Carried}
+use Rattle.step.specs.parts.Stepping.{Engine}
 use Rattle.step.proofs.Supports.{allowed}
 use Rattle.step.proofs.Carry.{carried-same}
-use Rattle.restart.specs.Restarting.{RestartedIn}
+use Rattle.restart.specs.parts.Restarting.{RestartedIn}
 
 module _
-    {owners priorities starts targets heads nexts sources firsts lasts waiting levels winners moves work firsts′ lasts′ waiting′ levels′ winners′ work′ : List ℕ}
-    (s : Engine owners priorities starts targets heads nexts sources firsts lasts waiting levels winners moves work)
-    (t : RestartedIn (length owners) priorities targets sources moves levels winners work firsts′ lasts′ waiting′ levels′ winners′ work′)
+    {tables : Tables} {heads nexts sources firsts lasts waiting levels winners moves work firsts′ lasts′ waiting′ levels′ winners′ work′ : List ℕ}
+    (s : Engine tables heads nexts sources firsts lasts waiting levels winners moves work)
+    (t : RestartedIn (vertices tables) (tables .priorities) (tables .targets) sources moves levels winners work firsts′ lasts′ waiting′ levels′ winners′ work′)
   where
     abbrev g : Game
-    g = gameOf owners priorities starts targets
+    g = gameOf tables
 
     abbrev n : ℕ
-    n = length owners
+    n = vertices tables
 
     -- the set: whatever leans on an open vertex
     abbrev R : ℕ → Type 0
@@ -44,7 +44,7 @@ module _
     back : (u w : ℕ) → Old u w → R w → R u
     back u w e one =
         t .open-reached .closed u w
-        (allowed owners priorities starts targets winners moves work sources (s .state .well-formed .sound) (s .edges) (s .state .safe) u w e) one
+        (allowed tables winners moves work sources (s .state .well-formed .sound) (s .edges) (s .state .safe) u w e) one
 
     -- the rest is as before
     same : (u : ℕ) → u < n → ¬ R u → Same (markOf winners) (moveOf moves) (settledOf n work) (markOf winners′) (moveOf moves) (settledOf n work′) u
@@ -87,16 +87,16 @@ module _
         }
 
     -- edges lead from a kept vertex to kept ones alone, so to no open one
-    apart : (kept : List ℕ) → KeptSet owners priorities starts targets work kept → (u : ℕ) → u < n → getD kept u 0 ≡ 1 → ¬ R u
+    apart : (kept : List ℕ) → KeptSet tables work kept → (u : ℕ) → u < n → getD kept u 0 ≡ 1 → ¬ R u
     apart kept h u l one r =
         let leads = t .open-reached .leads u l r in
         let k : (leads .0 < n) × (getD kept (leads .0) 0 ≡ 1) = follow (λ y. (y < n) × (getD kept y 0 ≡ 1)) stays (l, one) (leads .2) in
         leads .1 (settled-flag n work (leads .0) (h .settled (leads .0) (k .0) (k .1)))
       where
-        stays : (x y : ℕ) → Allowed targets sources (section 0 n work) moves 0 x y → (x < n) × (getD kept x 0 ≡ 1) → (y < n) × (getD kept y 0 ≡ 1)
+        stays : (x y : ℕ) → Allowed (tables .targets) sources (section 0 n work) moves 0 x y → (x < n) × (getD kept x 0 ≡ 1) → (y < n) × (getD kept y 0 ≡ 1)
         stays x y i k =
-            let e : Edge g x y = s .edges .edge owners priorities refl x y (i .edge) in
+            let e : Edge g x y = s .edges .edge (tables .owners) (tables .priorities) refl x y (i .edge) in
             (e .to, h .closed x y (k .1) e)
 
-    pub carried : Carried owners priorities starts targets winners moves work winners′ moves work′
+    pub carried : Carried tables winners moves work winners′ moves work′
     carried = carried-same (λ kept h u l one. same u l (apart kept h u l one))

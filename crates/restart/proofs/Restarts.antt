@@ -5,21 +5,21 @@ use mathlib.Core.Logic.{_≢_}
 use mathlib.Core.List.{List}
 use native.Mathlib.Omega.{arith}
 use lib.ListN.{length, getD}
-use Rattle.reach.specs.Work.{section}
-use Rattle.reach.specs.Queue.{ClosableIn, ClosedIn, ClearableIn, ClearedIn}
+use Rattle.reach.specs.parts.Work.{section}
+use Rattle.reach.specs.parts.Queue.{ClosableIn, ClosedIn, ClearableIn, ClearedIn}
 use Rattle.reach.proofs.Sections.{section-long}
-use Rattle.pick.specs.Lines.{Lines}
+use Rattle.pick.specs.parts.Lines.{Lines}
 use Rattle.pick.proofs.Picking.{standing-lines}
-use Rattle.step.specs.Parts.{Reopenable, Reopened}
-use Rattle.restart.specs.Restarting.{Seedable, SeededAll, Firmable, Firmed, Restartable, RestartedIn}
+use Rattle.step.specs.parts.Parts.{Reopenable, Reopened}
+use Rattle.restart.specs.parts.Restarting.{OpenSeedable, SeededAll, Firmable, Firmed, Restartable, RestartedIn}
 use Rattle.restart.proofs.Reaches.{open-reached}
 
 module _
     {n : ℕ} {priorities targets heads nexts sources moves firsts lasts waiting levels winners work : List ℕ}
     (p : Restartable n priorities targets heads nexts sources moves firsts lasts waiting levels winners work)
   where
-    pub seedable : Seedable n work
-    seedable = record { small = p .standing .small; long = p .standing .work-long; unmarked = p .unmarked }
+    pub seedable : OpenSeedable n work
+    seedable = record { small = p .standing .small; long = p .standing .work-long; unreached = p .unreached }
 
     module _ {work₁ : List ℕ} {tail : ℕ} (s : SeededAll n work work₁ tail) where
       pub closable : ClosableIn n targets heads nexts sources moves work₁ tail
@@ -60,7 +60,7 @@ module _
           firmable = record { small = p .standing .small; levels-long = p .levels-long; long = long }
 
           pub clearable : ClearableIn n work₃ end
-          clearable = record { long = long; small = p .standing .small; queued = rw (r .marks, r .queue) (c .closed .queued) }
+          clearable = record { long = long; small = p .standing .small; queued = rw (r .reached, r .queue) (c .closed .queued) }
 
           module _ {work′ : List ℕ} (d : ClearedIn n work₃ work′) where
             pub long-kept : length work′ ≡ length work
@@ -72,7 +72,7 @@ module _
 
             -- what is not marked with 1 is not marked
             blank : (u : ℕ) → u < n → getD (section 1 n work₂) u 0 ≢ 1 → getD (section 1 n work₃) u 0 ≡ 0
-            blank u l out = ap (λ (k : List ℕ). getD k u 0) (r .marks) ∙ omega (arith, c .closed .queued .flag u l)
+            blank u l out = ap (λ (k : List ℕ). getD k u 0) (r .reached) ∙ omega (arith, c .closed .queued .flag u l)
 
             pub restarted : {levels′ : List ℕ} → Firmed n levels work₃ levels′ → RestartedIn n priorities targets sources moves levels winners work firsts′ lasts′ waiting′ levels′ winners′ work′
             restarted f =
@@ -90,7 +90,7 @@ module _
                   same-flag = λ u l out. flag-of u ∙ r .flag u l out ∙ ap (λ (k : List ℕ). getD k u 0) flags;
                   same-mark = r .mark;
                   firm = λ u l out. f .firm u l (blank u l out);
-                  unmarked = d .filled;
+                  unreached = d .filled;
                   lines = subst (Lines n priorities waiting′ firsts′ lasts′) (sym (d .beside .spare)) (r .lines);
                   covered = rw (d .beside .levels) (r .covered);
                 }

@@ -7,12 +7,12 @@ use native.Mathlib.Omega.{arith}
 use native.Mathlib.Decide.{ℕ-discrete}
 use native.Mathlib.Nat.{not-suc-le-zero}
 use lib.ListN.{length, getD}
-use Rattle.reach.specs.Closure.{Queued}
-use Rattle.reach.specs.Work.{section, Beside}
-use Rattle.reach.specs.Queue.{SeedableIn, PushedIn}
+use Rattle.reach.specs.parts.Closure.{Queued}
+use Rattle.reach.specs.parts.Work.{section, Beside}
+use Rattle.reach.specs.parts.Queue.{SeedableIn, PushedIn}
 use Rattle.reach.proofs.Sections.{section-long, section-read, beside-none, beside-more}
 use Rattle.reach.proofs.Queues.{fresh-in, pushed-queued}
-use Rattle.restart.specs.Restarting.{Seedable, SeededAll}
+use Rattle.restart.specs.parts.Restarting.{OpenSeedable, SeededAll}
 
 -- the open vertices below v are marked, and no others
 pub record Seeding (n : ℕ) (work₀ work : List ℕ) (tail v : ℕ) : Type 0 where
@@ -21,18 +21,18 @@ pub record Seeding (n : ℕ) (work₀ work : List ℕ) (tail v : ℕ) : Type 0 w
   pub only : (u : ℕ) → u < n → getD (section 1 n work) u 0 ≡ 1 → (u < v) × (getD (section 0 n work₀) u 0 ≢ 0)
   pub beside : Beside n work₀ work
 
-module _ {n : ℕ} {work₀ : List ℕ} (p : Seedable n work₀) where
+module _ {n : ℕ} {work₀ : List ℕ} (p : OpenSeedable n work₀) where
   pub seeding-none : Seeding n work₀ work₀ 0 0
   seeding-none =
       record {
-        queued = fresh-in n work₀ (p .long) (p .unmarked);
+        queued = fresh-in n work₀ (p .long) (p .unreached);
         marked = λ u l h. absurd (not-suc-le-zero h);
         only = λ u l one. absurd (omega (arith, clean u l));
         beside = beside-none;
       }
     where
       clean : (u : ℕ) → u < n → getD (section 1 n work₀) u 0 ≡ 0
-      clean u l = p .unmarked .all u (omega (arith, section-long n work₀ (p .long) 1 (omega arith)))
+      clean u l = p .unreached .all u (omega (arith, section-long n work₀ (p .long) 1 (omega arith)))
 
   module _ {work : List ℕ} {tail v : ℕ} (s : Seeding n work₀ work tail v) where
     long : length work ≡ 4 * n
@@ -45,10 +45,10 @@ module _ {n : ℕ} {work₀ : List ℕ} (p : Seedable n work₀) where
     -- v is not marked yet
     pub seeding-seedable : v < n → SeedableIn n v work tail
     seeding-seedable l =
-        record { long = long; seedable = record { queued = s .queued; vertex = l; unmarked = unmarked; small = p .small } }
+        record { long = long; seedable = record { queued = s .queued; vertex = l; unreached = unreached; small = p .small } }
       where
-        unmarked : getD (section 1 n work) v 0 ≡ 0
-        unmarked =
+        unreached : getD (section 1 n work) v 0 ≡ 0
+        unreached =
             let out : getD (section 1 n work) v 0 ≢ 1 = λ one. omega (arith, s .only v l one .0) in
             omega (arith, s .queued .flag v l)
 

@@ -1,1 +1,1 @@
-pub mod Restarting
+pub mod parts

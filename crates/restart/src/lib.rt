@@ -5,11 +5,11 @@ use reach::closure::close;
 use reach::closure::seed;
 use step::reopen::reopen;
 ghost use lib.ListN.{length};
-ghost use Rattle.restart.specs.Restarting.{Seedable, SeededAll, Firmable, Firmed, Restartable, RestartedIn};
+ghost use Rattle.restart.specs.parts.Restarting.{OpenSeedable, SeededAll, Firmable, Firmed, Restartable, RestartedIn};
 
 // Every open vertex is a seed; the result is their number.
 fn seed_open(n: usize, work: &mut [u16]) -> usize
-    requires { ⌜ Seedable n (now work) ⌝ }
+    requires { ⌜ OpenSeedable n (now work) ⌝ }
     ensures { λ r. ⌜ SeededAll n (now (work .entry)) (now (work .exit)) r ⌝ }
 {
     let mut tail = 0;

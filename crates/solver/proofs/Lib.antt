@@ -3,5 +3,4 @@ pub mod Running
 pub mod Onward
 pub mod LinedUp
 pub mod Fresh
-pub mod Outcomes
 pub mod Unique

@@ -3,29 +3,30 @@ use Prim.Native.Nat.{ℕ}
 use mathlib.Core.Path.{_≡_, sym, _∙_}
 use mathlib.Core.List.{List}
 use lib.ListN.{length}
-use Rattle.step.specs.Stepping.{Engine, Moved}
+use Rattle.game.specs.promise.Tables.{Tables}
+use Rattle.step.specs.parts.Stepping.{Engine, Moved}
 use Rattle.step.proofs.Moving.{moved-more}
-use Rattle.attract.specs.Drawing.{Drawn}
+use Rattle.attract.specs.parts.Drawing.{Drawn}
 use Rattle.attract.proofs.Piles.{piled-none}
 use Rattle.orders.specs.declared.Ended.{Ended}
-use Rattle.orders.specs.Ending.{Ran}
-use Rattle.restart.specs.Restarting.{Restartable, RestartedIn}
+use Rattle.orders.specs.parts.Ending.{Ran}
+use Rattle.restart.specs.parts.Restarting.{Restartable, RestartedIn}
 use Rattle.restart.proofs.Moves.{restartable, restarted-moved}
-use Rattle.solver.specs.Settling.{SettledTo}
+use Rattle.solver.specs.parts.Settling.{SettledTo}
 
 module _
-    {owners priorities starts targets heads nexts sources winners₀ moves₀ work₀ firsts lasts waiting levels stack winners moves work firsts₁ lasts₁ waiting₁ levels₁ winners₁ moves₁ work₁ : List ℕ} {r : Ended}
-    (d : Drawn 0 owners priorities starts targets heads nexts sources winners₀ moves₀ work₀ firsts lasts waiting levels stack winners moves work)
-    (x : Ran owners priorities starts targets heads nexts sources winners moves work firsts₁ lasts₁ waiting₁ levels₁ winners₁ moves₁ work₁ r)
+    {tables : Tables} {heads nexts sources winners₀ moves₀ work₀ firsts lasts waiting levels stack winners moves work firsts₁ lasts₁ waiting₁ levels₁ winners₁ moves₁ work₁ : List ℕ} {r : Ended}
+    (d : Drawn 0 tables heads nexts sources winners₀ moves₀ work₀ firsts lasts waiting levels stack winners moves work)
+    (x : Ran tables heads nexts sources winners moves work firsts₁ lasts₁ waiting₁ levels₁ winners₁ moves₁ work₁ r)
   where
-    pub round-restartable : Restartable (length priorities) priorities targets heads nexts sources moves₁ firsts₁ lasts₁ waiting₁ levels₁ winners₁ work₁
+    pub round-restartable : Restartable (length (tables .priorities)) (tables .priorities) (tables .targets) heads nexts sources moves₁ firsts₁ lasts₁ waiting₁ levels₁ winners₁ work₁
     round-restartable = restartable (x .moved .engine)
 
     pub round-again :
         {firsts₂ lasts₂ waiting₂ levels₂ stack₂ winners₂ work₂ : List ℕ} →
-        RestartedIn (length priorities) priorities targets sources moves₁ levels₁ winners₁ work₁ firsts₂ lasts₂ waiting₂ levels₂ winners₂ work₂ →
+        RestartedIn (length (tables .priorities)) (tables .priorities) (tables .targets) sources moves₁ levels₁ winners₁ work₁ firsts₂ lasts₂ waiting₂ levels₂ winners₂ work₂ →
         length stack₂ ≡ 2048 →
-        Drawn 0 owners priorities starts targets heads nexts sources winners₀ moves₀ work₀ firsts₂ lasts₂ waiting₂ levels₂ stack₂ winners₂ moves₁ work₂
+        Drawn 0 tables heads nexts sources winners₀ moves₀ work₀ firsts₂ lasts₂ waiting₂ levels₂ stack₂ winners₂ moves₁ work₂
     round-again y long =
         record {
           moved = moved-more (moved-more (d .moved) (x .moved)) (restarted-moved (x .moved .engine) y);
@@ -34,11 +35,11 @@ module _
 
 -- what is settled from where the engine has come to is settled from where it began
 pub settled-after :
-    {owners priorities starts targets heads nexts sources firsts₀ lasts₀ waiting₀ levels₀ winners₀ moves₀ work₀ firsts lasts waiting levels winners moves work winners′ moves′ work′ : List ℕ} →
-    Engine owners priorities starts targets heads nexts sources firsts₀ lasts₀ waiting₀ levels₀ winners₀ moves₀ work₀ →
-    Moved owners priorities starts targets heads nexts sources winners₀ moves₀ work₀ firsts lasts waiting levels winners moves work →
-    SettledTo owners priorities starts targets winners moves work winners′ moves′ work′ →
-    SettledTo owners priorities starts targets winners₀ moves₀ work₀ winners′ moves′ work′
+    {tables : Tables} {heads nexts sources firsts₀ lasts₀ waiting₀ levels₀ winners₀ moves₀ work₀ firsts lasts waiting levels winners moves work winners′ moves′ work′ : List ℕ} →
+    Engine tables heads nexts sources firsts₀ lasts₀ waiting₀ levels₀ winners₀ moves₀ work₀ →
+    Moved tables heads nexts sources winners₀ moves₀ work₀ firsts lasts waiting levels winners moves work →
+    SettledTo tables winners moves work winners′ moves′ work′ →
+    SettledTo tables winners₀ moves₀ work₀ winners′ moves′ work′
 settled-after e m t =
     record {
       winners-long = t .winners-long ∙ m .winners-long;

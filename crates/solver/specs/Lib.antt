@@ -1,3 +1,2 @@
-pub mod Solving
-pub mod Settling
-pub mod Starting
+pub mod promise
+pub mod parts

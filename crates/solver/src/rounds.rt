@@ -1,5 +1,6 @@
 // The policy: the two orders in turn, each with a budget that grows, so that a game must be slow for both. Between two rounds everything
 // that is not decided for good is opened again. Which order begins, and the budgets, decide only how soon the answer is there.
+use game::NONE;
 use orders::Ended;
 use orders::attraction::attraction;
 use orders::lowest::lowest;
@@ -7,17 +8,18 @@ use restart::restart;
 ghost use mathlib.Core.Path.{_≡_};
 ghost use Prim.Native.Nat.{_+_, _<_, _≤_};
 ghost use lib.ListN.{length};
-ghost use Rattle.step.specs.Stepping.{Engine};
-ghost use Rattle.attract.specs.Drawing.{Drainable};
-ghost use Rattle.orders.specs.Ending.{Ran};
-ghost use Rattle.solver.specs.Settling.{SettledTo};
+ghost use Rattle.game.specs.promise.Lent.{asked, lent};
+ghost use Rattle.step.specs.parts.Stepping.{Engine};
+ghost use Rattle.attract.specs.parts.Drawing.{Drainable};
+ghost use Rattle.orders.specs.parts.Ending.{Ran};
+ghost use Rattle.solver.specs.parts.Settling.{SettledTo};
 
 // One line more, if somebody stands in it.
 fn counted(used: usize, first: u16) -> usize
     requires { ⌜ used < 256 ⌝ }
     ensures { λ r. ⌜ r ≤ used + 1 ⌝ }
 {
-    if first == 65535 { used } else { used + 1 }
+    if first == NONE { used } else { used + 1 }
 }
 
 // How many priorities have somebody in their line.
@@ -71,8 +73,8 @@ fn round(
     moves: &mut [u16],
     work: &mut [u16],
 ) -> Ended
-    requires { ⌜ Drainable 0 (now owners) (now priorities) (now starts) (now targets) (now heads) (now nexts) (now sources) (now firsts) (now lasts) (now waiting) (now levels) (now stack) (now winners) (now moves) (now work) ⌝ }
-    ensures { λ r. ⌜ Ran (now (owners .entry)) (now (priorities .entry)) (now (starts .entry)) (now (targets .entry)) (now (heads .entry)) (now (nexts .entry)) (now (sources .entry)) (now (winners .entry)) (now (moves .entry)) (now (work .entry)) (now (firsts .exit)) (now (lasts .exit)) (now (waiting .exit)) (now (levels .exit)) (now (winners .exit)) (now (moves .exit)) (now (work .exit)) r ⌝ }
+    requires { ⌜ Drainable 0 (asked owners priorities starts targets) (now heads) (now nexts) (now sources) (now firsts) (now lasts) (now waiting) (now levels) (now stack) (now winners) (now moves) (now work) ⌝ }
+    ensures { λ r. ⌜ Ran (lent owners priorities starts targets) (now (heads .entry)) (now (nexts .entry)) (now (sources .entry)) (now (winners .entry)) (now (moves .entry)) (now (work .entry)) (now (firsts .exit)) (now (lasts .exit)) (now (waiting .exit)) (now (levels .exit)) (now (winners .exit)) (now (moves .exit)) (now (work .exit)) r ⌝ }
 {
     if order == 0 {
         return lowest(
@@ -130,8 +132,8 @@ fn finish(
     moves: &mut [u16],
     work: &mut [u16],
 )
-    requires { ⌜ Engine (now owners) (now priorities) (now starts) (now targets) (now heads) (now nexts) (now sources) (now firsts) (now lasts) (now waiting) (now levels) (now winners) (now moves) (now work) ⌝ }
-    ensures { λ _. ⌜ SettledTo (now (owners .entry)) (now (priorities .entry)) (now (starts .entry)) (now (targets .entry)) (now (winners .entry)) (now (moves .entry)) (now (work .entry)) (now (winners .exit)) (now (moves .exit)) (now (work .exit)) ⌝ }
+    requires { ⌜ Engine (asked owners priorities starts targets) (now heads) (now nexts) (now sources) (now firsts) (now lasts) (now waiting) (now levels) (now winners) (now moves) (now work) ⌝ }
+    ensures { λ _. ⌜ SettledTo (lent owners priorities starts targets) (now (winners .entry)) (now (moves .entry)) (now (work .entry)) (now (winners .exit)) (now (moves .exit)) (now (work .exit)) ⌝ }
 {
     loop {
         let last = lowest(
@@ -175,8 +177,8 @@ pub fn run(
     moves: &mut [u16],
     work: &mut [u16],
 )
-    requires { ⌜ Drainable 0 (now owners) (now priorities) (now starts) (now targets) (now heads) (now nexts) (now sources) (now firsts) (now lasts) (now waiting) (now levels) (now stack) (now winners) (now moves) (now work) ⌝ }
-    ensures { λ _. ⌜ SettledTo (now (owners .entry)) (now (priorities .entry)) (now (starts .entry)) (now (targets .entry)) (now (winners .entry)) (now (moves .entry)) (now (work .entry)) (now (winners .exit)) (now (moves .exit)) (now (work .exit)) ⌝ }
+    requires { ⌜ Drainable 0 (asked owners priorities starts targets) (now heads) (now nexts) (now sources) (now firsts) (now lasts) (now waiting) (now levels) (now stack) (now winners) (now moves) (now work) ⌝ }
+    ensures { λ _. ⌜ SettledTo (lent owners priorities starts targets) (now (winners .entry)) (now (moves .entry)) (now (work .entry)) (now (winners .exit)) (now (moves .exit)) (now (work .exit)) ⌝ }
 {
     let mut order = begins_with(lines_used(firsts));
     let mut budget = 16 * owners.len();

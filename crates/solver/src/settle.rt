@@ -1,8 +1,11 @@
 // The engine: from any safe start to an accepted answer.
 use crate::rounds::run;
+use game::NONE;
+use game::VERTICES;
 use levels::by_priority;
 use pick::lines::line_up;
-ghost use Rattle.solver.specs.Settling.{Settleable, SettledTo};
+ghost use Rattle.game.specs.promise.Lent.{asked, lent};
+ghost use Rattle.solver.specs.parts.Settling.{Settleable, SettledTo};
 
 // Settles every open vertex; no line of a set of settled vertices whose successors are all in it changes.
 pub fn settle(
@@ -17,15 +20,15 @@ pub fn settle(
     moves: &mut [u16],
     work: &mut [u16],
 )
-    requires { ⌜ Settleable (now owners) (now priorities) (now starts) (now targets) (now heads) (now nexts) (now sources) (now winners) (now moves) (now work) ⌝ }
-    ensures { λ _. ⌜ SettledTo (now (owners .entry)) (now (priorities .entry)) (now (starts .entry)) (now (targets .entry)) (now (winners .entry)) (now (moves .entry)) (now (work .entry)) (now (winners .exit)) (now (moves .exit)) (now (work .exit)) ⌝ }
+    requires { ⌜ Settleable (asked owners priorities starts targets) (now heads) (now nexts) (now sources) (now winners) (now moves) (now work) ⌝ }
+    ensures { λ _. ⌜ SettledTo (lent owners priorities starts targets) (now (winners .entry)) (now (moves .entry)) (now (work .entry)) (now (winners .exit)) (now (moves .exit)) (now (work .exit)) ⌝ }
 {
     let n = owners.len();
-    let mut firsts = [65535u16; 256];
+    let mut firsts = [NONE; 256];
     let mut lasts = [0u16; 256];
-    let mut waiting = [0u16; 2048];
-    let mut levels = [0u16; 2048];
-    let mut stack = [0u16; 2048];
+    let mut waiting = [0u16; VERTICES];
+    let mut levels = [0u16; VERTICES];
+    let mut stack = [0u16; VERTICES];
     line_up(n, priorities, &mut firsts, &mut lasts, &mut waiting, work);
     by_priority(priorities, &mut levels);
     run(

@@ -1,10 +1,10 @@
-// The start with nothing kept: every vertex is open, with the mark of its own priority's parity, and none is marked for a closure.
+// The start with nothing kept: every vertex is open, with the mark of its own priority's parity, and none is reached by a closure.
 use game::answer::set_mark;
 use player::Player;
-ghost use Rattle.solver.specs.Starting.{Openable, AllOpen};
+ghost use Rattle.solver.specs.parts.Starting.{Startable, AllOpen};
 
 pub fn open_all(priorities: &[u8], winners: &mut [u8], work: &mut [u16])
-    requires { ⌜ Openable (now priorities) (now winners) (now work) ⌝ }
+    requires { ⌜ Startable (now priorities) (now winners) (now work) ⌝ }
     ensures { λ _. ⌜ AllOpen (now (priorities .entry)) (now (winners .entry)) (now (work .entry)) (now (winners .exit)) (now (work .exit)) ⌝ }
 {
     let n = priorities.len();

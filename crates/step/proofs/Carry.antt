@@ -2,23 +2,24 @@
 use Prim.Native.Nat.{ℕ, _<_}
 use mathlib.Core.Path.{_≡_, refl, _∙_}
 use mathlib.Core.List.{List}
-use lib.ListN.{length, getD}
-use Rattle.game.specs.Answer.{markOf, moveOf}
-use Rattle.justification.specs.Step.{Same}
-use Rattle.levels.specs.Levels.{settledOf}
-use Rattle.step.specs.State.{KeptSet, Carried}
+use lib.ListN.{getD}
+use Rattle.game.specs.promise.Answer.{markOf, moveOf}
+use Rattle.game.specs.promise.Tables.{Tables, vertices}
+use Rattle.justification.specs.parts.Step.{Same}
+use Rattle.levels.specs.parts.Levels.{settledOf}
+use Rattle.step.specs.parts.State.{KeptSet, Carried}
 
-module _ {owners priorities starts targets : List ℕ} where
+module _ {tables : Tables} where
   -- no step
-  pub carried-none : {winners moves work : List ℕ} → Carried owners priorities starts targets winners moves work winners moves work
+  pub carried-none : {winners moves work : List ℕ} → Carried tables winners moves work winners moves work
   carried-none = record { kept = λ kept k. k; mark = λ kept k v l one. refl; move = λ kept k v l one. refl }
 
   -- one step more
   pub carried-more :
       {winners moves work winners′ moves′ work′ winners″ moves″ work″ : List ℕ} →
-      Carried owners priorities starts targets winners moves work winners′ moves′ work′ →
-      Carried owners priorities starts targets winners′ moves′ work′ winners″ moves″ work″ →
-      Carried owners priorities starts targets winners moves work winners″ moves″ work″
+      Carried tables winners moves work winners′ moves′ work′ →
+      Carried tables winners′ moves′ work′ winners″ moves″ work″ →
+      Carried tables winners moves work winners″ moves″ work″
   carried-more a b =
       record {
         kept = λ kept k. b .kept kept (a .kept kept k);
@@ -29,8 +30,8 @@ module _ {owners priorities starts targets : List ℕ} where
   -- a step that leaves the line of every kept vertex as it was
   pub carried-same :
       {winners moves work winners′ moves′ work′ : List ℕ} →
-      ((kept : List ℕ) → KeptSet owners priorities starts targets work kept → (u : ℕ) → u < length owners → getD kept u 0 ≡ 1 → Same (markOf winners) (moveOf moves) (settledOf (length owners) work) (markOf winners′) (moveOf moves′) (settledOf (length owners) work′) u) →
-      Carried owners priorities starts targets winners moves work winners′ moves′ work′
+      ((kept : List ℕ) → KeptSet tables work kept → (u : ℕ) → u < vertices tables → getD kept u 0 ≡ 1 → Same (markOf winners) (moveOf moves) (settledOf (vertices tables) work) (markOf winners′) (moveOf moves′) (settledOf (vertices tables) work′) u) →
+      Carried tables winners moves work winners′ moves′ work′
   carried-same same =
       record {
         kept = λ kept k. record { settled = λ v l one. same kept k v l one .flag ∙ k .settled v l one; closed = k .closed };

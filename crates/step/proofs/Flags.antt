@@ -5,9 +5,9 @@ use mathlib.Core.List.{List}
 use native.Mathlib.Omega.{arith}
 use lib.ListN.{length, getD, set}
 use lib.Seq.{getD-set-same, getD-set-other}
-use Rattle.reach.specs.Work.{section}
+use Rattle.reach.specs.parts.Work.{section}
 use Rattle.reach.proofs.Sections.{section-long, Stored, stored}
-use Rattle.step.specs.Parts.{FlagSet}
+use Rattle.step.specs.parts.Parts.{FlagSet}
 
 pub flag-set : {n v x : ℕ} {work : List ℕ} → length work ≡ 4 * n → v < n → FlagSet n v x work (set work v x)
 flag-set {n} {v} {x} {work} long l =
@@ -15,7 +15,7 @@ flag-set {n} {v} {x} {work} long l =
       long = s .long;
       here = ap (λ (f : List ℕ). getD f v 0) (s .here) ∙ getD-set-same (section 0 n work) v x 0 (omega (arith, section-long n work long 0 (omega arith)));
       other = λ u ne. ap (λ (f : List ℕ). getD f u 0) (s .here) ∙ getD-set-other (section 0 n work) v u x 0 ne;
-      marks = s .other 1 (omega arith) (omega arith);
+      reached = s .other 1 (omega arith) (omega arith);
       queue = s .other 2 (omega arith) (omega arith);
       links = s .other 3 (omega arith) (omega arith);
     }

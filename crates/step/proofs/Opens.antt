@@ -4,9 +4,9 @@ use mathlib.Core.Path.{sym, ap, subst, _∙_}
 use mathlib.Core.List.{List}
 use native.Mathlib.Omega.{arith}
 use lib.ListN.{getD, set}
-use Rattle.pick.specs.Lines.{Lines}
-use Rattle.pick.specs.Moves.{Standable, StoodIn}
-use Rattle.step.specs.Parts.{FlagSet, OpenedIn}
+use Rattle.pick.specs.parts.Lines.{Lines}
+use Rattle.pick.specs.parts.Moves.{Standable, StoodIn}
+use Rattle.step.specs.parts.Parts.{FlagSet, OpenedIn}
 use Rattle.step.proofs.Flags.{flag-set}
 
 pub opened : {n u : ℕ} {priorities firsts lasts waiting work firsts′ lasts′ waiting′ work₁ : List ℕ} → Standable n u priorities firsts lasts waiting work → StoodIn n u priorities waiting work firsts′ lasts′ waiting′ work₁ → OpenedIn n u priorities waiting work firsts′ lasts′ waiting′ (set work₁ u 1)
@@ -19,7 +19,7 @@ opened {n} {u} {priorities} {work = work} {firsts′ = firsts′} {lasts′ = la
       other = λ w ne. f .other w ne ∙ ap (λ (l : List ℕ). getD l w 0) (s .links-only .flags);
       waits = s .here;
       waits-other = s .other;
-      marks = f .marks ∙ s .links-only .marks;
+      reached = f .reached ∙ s .links-only .reached;
       queue = f .queue ∙ s .links-only .queue;
     }
   where

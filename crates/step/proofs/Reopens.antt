@@ -7,15 +7,16 @@ use native.Mathlib.Omega.{arith}
 use native.Mathlib.Decide.{ℕ-discrete}
 use native.Mathlib.Nat.{not-suc-le-zero}
 use lib.ListN.{length, getD}
-use Rattle.player.specs.Player.{parityOf}
-use Rattle.game.specs.Answer.{markRoom, markOf, MarkSet}
-use Rattle.reach.specs.Work.{section}
+use Rattle.player.specs.promise.Player.{parityOf}
+use Rattle.game.specs.promise.Answer.{markRoom, markOf}
+use Rattle.game.specs.parts.Answers.{MarkSet}
+use Rattle.reach.specs.parts.Work.{section}
 use Rattle.reach.proofs.Sections.{section-read}
 use Rattle.reach.proofs.Queues.{tail-bounded}
-use Rattle.pick.specs.Lines.{Lines, Covered}
-use Rattle.pick.specs.Moves.{Standable}
+use Rattle.pick.specs.parts.Lines.{Lines, Covered}
+use Rattle.pick.specs.parts.Moves.{Standable}
 use Rattle.pick.proofs.Picking.{standing-lines}
-use Rattle.step.specs.Parts.{Opened, OpenedIn, Reopenable, Reopened}
+use Rattle.step.specs.parts.Parts.{Opened, OpenedIn, Reopenable, Reopened}
 
 -- the first i of the queue are open again, what is not marked is as before, every open vertex waits, and low is at most `from`
 pub record Reopening (n : ℕ) (priorities waiting₀ winners₀ work₀ : List ℕ) (from : ℕ) (firsts lasts waiting winners work : List ℕ) (low i : ℕ) : Type 0 where
@@ -27,7 +28,7 @@ pub record Reopening (n : ℕ) (priorities waiting₀ winners₀ work₀ : List 
   pub below : (j : ℕ) → j < i → low ≤ getD priorities (getD (section 2 n work₀) j 0) 0
   pub flag : (u : ℕ) → u < n → getD (section 1 n work₀) u 0 ≢ 1 → getD (section 0 n work) u 0 ≡ getD (section 0 n work₀) u 0
   pub mark : (u : ℕ) → u < n → getD (section 1 n work₀) u 0 ≢ 1 → markOf winners u ≡ markOf winners₀ u
-  pub marks : section 1 n work ≡ section 1 n work₀
+  pub reached : section 1 n work ≡ section 1 n work₀
   pub queue : section 2 n work ≡ section 2 n work₀
   pub lines : Lines n priorities waiting firsts lasts (section 3 n work)
   pub covered : Covered n (section 0 n work) waiting
@@ -44,7 +45,7 @@ module _ {n : ℕ} {priorities firsts₀ lasts₀ waiting₀ winners₀ work₀ 
         below = λ j l. absurd (not-suc-le-zero l);
         flag = λ u l ne. refl;
         mark = λ u l ne. refl;
-        marks = refl;
+        reached = refl;
         queue = refl;
         lines = p .standing .lines;
         covered = p .covered;
@@ -82,7 +83,7 @@ module _ {n : ℕ} {priorities firsts₀ lasts₀ waiting₀ winners₀ work₀ 
           below = λ j h. elim (ℕ-discrete j i) [ yes e ↦ subst (λ (k : ℕ). low′ ≤ getD priorities k 0) (eu ∙ is l ∙ ap (λ (k : ℕ). getD (section 2 n work₀) k 0) (sym e)) here | no ne ↦ omega (arith, r .below j (omega arith)) ];
           flag = λ w h ne. f .other w (apart w ne) ∙ r .flag w h ne;
           mark = λ w h ne. m .other w (apart w ne) ∙ r .mark w h ne;
-          marks = f .marks ∙ r .marks;
+          reached = f .reached ∙ r .reached;
           queue = f .queue ∙ r .queue;
           lines = f .lines;
           covered = record { waits = λ w h o. waits w h o (ℕ-discrete w u) };
@@ -122,7 +123,7 @@ module _ {n : ℕ} {priorities firsts₀ lasts₀ waiting₀ winners₀ work₀ 
               subst (λ (k : ℕ). low ≤ getD priorities k 0) (q .2) (r .below (q .0) (omega (arith, q .1)));
           flag = r .flag;
           mark = r .mark;
-          marks = r .marks;
+          reached = r .reached;
           queue = r .queue;
           lines = r .lines;
           covered = r .covered;

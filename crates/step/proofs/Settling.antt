@@ -5,11 +5,11 @@ use mathlib.Core.Logic.{_≢_}
 use mathlib.Core.List.{List}
 use native.Mathlib.Omega.{arith}
 use lib.ListN.{length, getD}
-use Rattle.player.specs.Player.{parityOf}
-use Rattle.game.specs.Answer.{MoveSet}
-use Rattle.levels.specs.Levels.{LevelSet}
-use Rattle.step.specs.Parts.{FlagSet, Keepable}
-use Rattle.step.specs.Turning.{Turnable, TurnedIn, SteppedIn}
+use Rattle.player.specs.promise.Player.{parityOf}
+use Rattle.game.specs.parts.Answers.{MoveSet}
+use Rattle.levels.specs.parts.Levels.{LevelSet}
+use Rattle.step.specs.parts.Parts.{FlagSet, Keepable}
+use Rattle.step.specs.parts.Turning.{Turnable, TurnedIn, SteppedIn}
 
 module _ {n v : ℕ} {priorities targets heads nexts sources firsts lasts waiting levels winners moves work : List ℕ} (p : Turnable n v priorities targets heads nexts sources firsts lasts waiting levels winners moves work) where
   pub settlable : Keepable v levels moves work

@@ -6,45 +6,45 @@ use mathlib.Core.List.{List}
 use native.Mathlib.Omega.{arith}
 use native.Mathlib.Decide.{ℕ-discrete}
 use lib.ListN.{length, getD}
-use Rattle.player.specs.Player.{parityOf, opponentOf}
-use Rattle.game.specs.Game.{Game}
-use Rattle.game.specs.Tables.{gameOf}
-use Rattle.game.specs.Answer.{markRoom, markOf, moveOf}
+use Rattle.player.specs.promise.Player.{parityOf, opponentOf}
+use Rattle.game.specs.promise.Game.{Game}
+use Rattle.game.specs.promise.Tables.{gameOf, Tables, vertices}
+use Rattle.game.specs.promise.Answer.{markRoom, markOf, moveOf}
 use Rattle.game.proofs.Stores.{room-is}
-use Rattle.justification.specs.Safe.{Safe, Onward, Eligible, Levelled}
-use Rattle.justification.specs.Step.{Tested, Kept, Turned, Same, Leaning}
+use Rattle.justification.specs.parts.Safe.{Safe, Onward, Eligible, Levelled}
+use Rattle.justification.specs.parts.Step.{TestGives, Kept, Turned, Same, Leaning}
 use Rattle.justification.proofs.KeepStep.{keeps}
 use Rattle.justification.proofs.TurnStep.{turns}
 use Rattle.justification.proofs.Falls.{keeps-falls, turns-falls}
 use Rattle.justification.proofs.Levels.{kept-levelled, turned-levelled}
 use Rattle.justification.proofs.Started.{never-reopened}
-use Rattle.reach.specs.Lists.{Filled}
-use Rattle.reach.specs.Work.{section}
-use Rattle.pick.specs.Lines.{Lines, Covered}
+use Rattle.reach.specs.parts.Lists.{Filled}
+use Rattle.reach.specs.parts.Work.{section}
+use Rattle.pick.specs.parts.Lines.{Lines, Covered}
 use Rattle.pick.proofs.Picking.{standing-lines}
-use Rattle.levels.specs.Levels.{settledOf, levelOf}
+use Rattle.levels.specs.parts.Levels.{settledOf, levelOf}
 use Rattle.levels.proofs.Flags.{flag-settled, settled-flag, same-settled}
-use Rattle.step.specs.State.{KeptSet}
-use Rattle.step.specs.Stepping.{Engine, Fitting, Moved, Falls}
-use Rattle.step.specs.Turning.{Turnable, KeptIn, TurnedIn, SteppedIn}
+use Rattle.step.specs.parts.State.{KeptSet}
+use Rattle.step.specs.parts.Stepping.{Engine, Fitting, Moved, Falls}
+use Rattle.step.specs.parts.Turning.{Turnable, KeptIn, TurnedIn, SteppedIn}
 use Rattle.step.proofs.Supports.{leaning}
 use Rattle.step.proofs.Carry.{carried-same}
 
 -- the engine after a step, with a smaller measure
-pub record Stepped (owners priorities starts targets heads nexts sources winners moves work firsts′ lasts′ waiting′ levels′ winners′ moves′ work′ : List ℕ) : Type 0 where
-  pub moved : Moved owners priorities starts targets heads nexts sources winners moves work firsts′ lasts′ waiting′ levels′ winners′ moves′ work′
-  pub falls : Falls owners priorities starts targets winners work winners′ work′
+pub record Stepped (tables : Tables) (heads nexts sources winners moves work firsts′ lasts′ waiting′ levels′ winners′ moves′ work′ : List ℕ) : Type 0 where
+  pub moved : Moved tables heads nexts sources winners moves work firsts′ lasts′ waiting′ levels′ winners′ moves′ work′
+  pub falls : Falls tables winners work winners′ work′
 
 module _
-    (v p m k : ℕ) (owners priorities starts targets heads nexts sources firsts lasts waiting levels winners moves work : List ℕ)
-    (s : Engine owners priorities starts targets heads nexts sources firsts lasts waiting levels winners moves work)
-    (f : Fitting v p m k owners priorities starts targets winners moves work)
+    (v p m k : ℕ) (tables : Tables) (heads nexts sources firsts lasts waiting levels winners moves work : List ℕ)
+    (s : Engine tables heads nexts sources firsts lasts waiting levels winners moves work)
+    (f : Fitting v p m k tables winners moves work)
   where
     abbrev g : Game
-    g = gameOf owners priorities starts targets
+    g = gameOf tables
 
     abbrev n : ℕ
-    n = length owners
+    n = vertices tables
 
     safe : Safe g (markOf winners) (moveOf moves) (settledOf n work)
     safe = s .state .safe
@@ -56,7 +56,7 @@ module _
     unsettled = f .eligible .unsettled
 
     -- v is in no kept set, since it is open
-    outside : (kept : List ℕ) → KeptSet owners priorities starts targets work kept → (u : ℕ) → getD kept u 0 ≡ 1 → u ≢ v
+    outside : (kept : List ℕ) → KeptSet tables work kept → (u : ℕ) → getD kept u 0 ≡ 1 → u ≢ v
     outside kept h u one e = unsettled (h .settled v vertex (subst (λ (x : ℕ). getD kept x 0 ≡ 1) e one))
 
     module _ (firsts′ lasts′ waiting′ levels′ winners′ moves′ work′ : List ℕ) where
@@ -71,12 +71,12 @@ module _
           length waiting′ ≡ 2048 →
           length levels′ ≡ length levels →
           Filled (section 1 n work′) 0 →
-          Lines n priorities waiting′ firsts′ lasts′ (section 3 n work′) →
+          Lines n (tables .priorities) waiting′ firsts′ lasts′ (section 3 n work′) →
           Covered n (section 0 n work′) waiting′ →
           Safe g (markOf winners′) (moveOf moves′) (settledOf n work′) →
           Levelled g (markOf winners′) (moveOf moves′) (settledOf n work′) (levelOf levels′) →
-          Engine owners priorities starts targets heads nexts sources firsts′ lasts′ waiting′ levels′ winners′ moves′ work′
-      engine marks-long moves-long work-long waiting-long levels-long unmarked lines covered safe′ levelled =
+          Engine tables heads nexts sources firsts′ lasts′ waiting′ levels′ winners′ moves′ work′
+      engine marks-long moves-long work-long waiting-long levels-long unreached lines covered safe′ levelled =
           let t = s .state in
           record {
             state =
@@ -85,7 +85,7 @@ module _
                   winners-long = marks-long ∙ t .winners-long;
                   moves-long = moves-long ∙ t .moves-long;
                   work-long = work-long ∙ t .work-long;
-                  unmarked = unmarked;
+                  unreached = unreached;
                   safe = safe′;
                 };
             preds = s .preds;
@@ -99,9 +99,9 @@ module _
     -- settling v with the mark that it has
     kept-stepped :
         {low r : ℕ} {firsts′ lasts′ waiting′ levels′ winners′ moves′ work′ : List ℕ} →
-        p ≡ parityOf (getD priorities v 0) →
-        KeptIn (length owners) v m k low firsts lasts waiting levels winners moves work firsts′ lasts′ waiting′ levels′ winners′ moves′ work′ r →
-        Stepped owners priorities starts targets heads nexts sources winners moves work firsts′ lasts′ waiting′ levels′ winners′ moves′ work′
+        p ≡ parityOf (getD (tables .priorities) v 0) →
+        KeptIn (vertices tables) v m k low firsts lasts waiting levels winners moves work firsts′ lasts′ waiting′ levels′ winners′ moves′ work′ r →
+        Stepped tables heads nexts sources winners moves work firsts′ lasts′ waiting′ levels′ winners′ moves′ work′
     kept-stepped {low} {r} {firsts′} {lasts′} {waiting′} {levels′} {winners′} {moves′} {work′} e t =
         rw (t .firsts-same, t .lasts-same, t .waiting-same, t .winners-same)
         (record {
@@ -109,7 +109,7 @@ module _
               record {
                 engine =
                     engine firsts lasts waiting levels′ winners moves′ work′ refl (t .move .long) (t .flag .long) (s .standing .waiting-long) (t .level .long)
-                    (rw (t .flag .marks) (s .state .unmarked)) (rw (t .flag .links) (s .standing .lines)) covered
+                    (rw (t .flag .reached) (s .state .unreached)) (rw (t .flag .links) (s .standing .lines)) covered
                     (keeps g _ _ _ _ _ _ v m safe eligible tested kept)
                     (kept-levelled g _ _ _ _ _ _ v m eligible kept (s .levelled) onward (λ u l ne. t .level .other u ne));
                 winners-long = refl;
@@ -118,45 +118,45 @@ module _
           falls = record { less = keeps-falls g _ _ _ _ _ _ v m safe vertex unsettled kept };
         })
       where
-        eligible : Eligible (gameOf owners priorities starts targets) (markOf winners) (moveOf moves) (settledOf (length owners) work) v (parityOf (getD priorities v 0)) m
+        eligible : Eligible (gameOf tables) (markOf winners) (moveOf moves) (settledOf (vertices tables) work) v (parityOf (getD (tables .priorities) v 0)) m
         eligible = rw e at (f .eligible)
 
-        tested : Tested (gameOf owners priorities starts targets) (markOf winners) v (parityOf (getD priorities v 0)) m
+        tested : TestGives (gameOf tables) (markOf winners) v (parityOf (getD (tables .priorities) v 0)) m
         tested = rw e at (f .tested)
 
-        onward : Onward (gameOf owners priorities starts targets) (markOf winners) (moveOf moves) (settledOf (length owners) work) v (parityOf (getD priorities v 0)) m (levelOf levels′ v)
+        onward : Onward (gameOf tables) (markOf winners) (moveOf moves) (settledOf (vertices tables) work) v (parityOf (getD (tables .priorities) v 0)) m (levelOf levels′ v)
         onward = rw (e, sym (t .level .here)) at (f .onward)
 
-        same : (u : ℕ) → u ≢ v → Same (markOf winners) (moveOf moves) (settledOf (length owners) work) (markOf winners) (moveOf moves′) (settledOf (length owners) work′) u
-        same u ne = record { marked = refl; moved = t .move .other u ne; flag = same-settled (length owners) work work′ u (t .flag .other u ne) }
+        same : (u : ℕ) → u ≢ v → Same (markOf winners) (moveOf moves) (settledOf (vertices tables) work) (markOf winners) (moveOf moves′) (settledOf (vertices tables) work′) u
+        same u ne = record { marked = refl; moved = t .move .other u ne; flag = same-settled (vertices tables) work work′ u (t .flag .other u ne) }
 
-        kept : Kept (markOf winners) (moveOf moves) (settledOf (length owners) work) (markOf winners) (moveOf moves′) (settledOf (length owners) work′) (gameOf owners priorities starts targets) v m
+        kept : Kept (markOf winners) (moveOf moves) (settledOf (vertices tables) work) (markOf winners) (moveOf moves′) (settledOf (vertices tables) work′) (gameOf tables) v m
         kept =
             record {
-              here = record { marked = safe .default v vertex unsettled; moved = t .move .here; flag = flag-settled (length owners) work′ v (t .flag .here) };
+              here = record { marked = safe .default v vertex unsettled; moved = t .move .here; flag = flag-settled (vertices tables) work′ v (t .flag .here) };
               elsewhere = λ u l ne. same u ne;
             }
 
         -- what is open now was open before
-        covered : Covered (length owners) (section 0 (length owners) work′) waiting
+        covered : Covered (vertices tables) (section 0 (vertices tables) work′) waiting
         covered = record { waits = λ u l o. s .covered .waits u l (λ z. o (t .flag .other u (not-v u o) ∙ z)) }
           where
-            not-v : (u : ℕ) → getD (section 0 (length owners) work′) u 0 ≢ 0 → u ≢ v
-            not-v u o e = o (subst (λ (x : ℕ). getD (section 0 (length owners) work′) x 0 ≡ 0) (sym e) (t .flag .here))
+            not-v : (u : ℕ) → getD (section 0 (vertices tables) work′) u 0 ≢ 0 → u ≢ v
+            not-v u o e = o (subst (λ (x : ℕ). getD (section 0 (vertices tables) work′) x 0 ≡ 0) (sym e) (t .flag .here))
 
     -- turning v
     turned-stepped :
         {low r : ℕ} {firsts′ lasts′ waiting′ levels′ winners′ moves′ work′ : List ℕ} →
-        p ≢ parityOf (getD priorities v 0) →
-        TurnedIn (length owners) v p m k low priorities targets sources levels winners moves work firsts′ lasts′ waiting′ levels′ winners′ moves′ work′ r →
-        Stepped owners priorities starts targets heads nexts sources winners moves work firsts′ lasts′ waiting′ levels′ winners′ moves′ work′
+        p ≢ parityOf (getD (tables .priorities) v 0) →
+        TurnedIn (vertices tables) v p m k low (tables .priorities) (tables .targets) sources levels winners moves work firsts′ lasts′ waiting′ levels′ winners′ moves′ work′ r →
+        Stepped tables heads nexts sources winners moves work firsts′ lasts′ waiting′ levels′ winners′ moves′ work′
     turned-stepped {low} {r} {firsts′} {lasts′} {waiting′} {levels′} {winners′} {moves′} {work′} ne t =
         record {
           moved =
               record {
                 engine =
                     engine firsts′ lasts′ waiting′ levels′ winners′ moves′ work′ (t .room) (t .move .long) (t .long) (t .waiting-long) (t .level .long)
-                    (t .unmarked) (t .lines) (t .covered)
+                    (t .unreached) (t .lines) (t .covered)
                     (turns g _ _ _ _ _ _ _ v m safe eligible tested leans turned)
                     (turned-levelled g _ _ _ _ _ _ _ v m safe eligible tested leans turned (s .levelled) onward (λ u l ne. t .level .other u ne));
                 winners-long = sym (room-is winners′) ∙ t .room ∙ room-is winners;
@@ -165,48 +165,48 @@ module _
           falls = record { less = turns-falls g _ _ _ _ _ _ _ v m safe vertex unsettled leans turned };
         }
       where
-        e : p ≡ opponentOf (parityOf (getD priorities v 0))
+        e : p ≡ opponentOf (parityOf (getD (tables .priorities) v 0))
         e = omega (arith, f .player)
 
-        eligible : Eligible (gameOf owners priorities starts targets) (markOf winners) (moveOf moves) (settledOf (length owners) work) v (opponentOf (parityOf (getD priorities v 0))) m
+        eligible : Eligible (gameOf tables) (markOf winners) (moveOf moves) (settledOf (vertices tables) work) v (opponentOf (parityOf (getD (tables .priorities) v 0))) m
         eligible = rw e at (f .eligible)
 
-        tested : Tested (gameOf owners priorities starts targets) (markOf winners) v (opponentOf (parityOf (getD priorities v 0))) m
+        tested : TestGives (gameOf tables) (markOf winners) v (opponentOf (parityOf (getD (tables .priorities) v 0))) m
         tested = rw e at (f .tested)
 
-        onward : Onward (gameOf owners priorities starts targets) (markOf winners) (moveOf moves) (settledOf (length owners) work) v (opponentOf (parityOf (getD priorities v 0))) m (levelOf levels′ v)
+        onward : Onward (gameOf tables) (markOf winners) (moveOf moves) (settledOf (vertices tables) work) v (opponentOf (parityOf (getD (tables .priorities) v 0))) m (levelOf levels′ v)
         onward = rw (e, sym (t .level .here)) at (f .onward)
 
-        leans : Leaning (gameOf owners priorities starts targets) (markOf winners) (moveOf moves) (settledOf (length owners) work) v (λ u. getD (t .reached) u 0 ≡ 1)
-        leans = leaning owners priorities starts targets winners moves work sources (s .state .well-formed .sound) (s .edges) safe (t .leaning)
+        leans : Leaning (gameOf tables) (markOf winners) (moveOf moves) (settledOf (vertices tables) work) v (λ u. getD (t .reached) u 0 ≡ 1)
+        leans = leaning tables winners moves work sources (s .state .well-formed .sound) (s .edges) safe (t .leaning)
 
-        same : (u : ℕ) → u < length owners → u ≢ v → getD (t .reached) u 0 ≢ 1 → Same (markOf winners) (moveOf moves) (settledOf (length owners) work) (markOf winners′) (moveOf moves′) (settledOf (length owners) work′) u
+        same : (u : ℕ) → u < vertices tables → u ≢ v → getD (t .reached) u 0 ≢ 1 → Same (markOf winners) (moveOf moves) (settledOf (vertices tables) work) (markOf winners′) (moveOf moves′) (settledOf (vertices tables) work′) u
         same u l ne out =
             record {
               marked = t .same-mark u l ne out;
               moved = t .move .other u ne;
-              flag = same-settled (length owners) work work′ u (t .same-flag u l ne out);
+              flag = same-settled (vertices tables) work work′ u (t .same-flag u l ne out);
             }
 
         -- no kept vertex leans on v
-        apart : (kept : List ℕ) → KeptSet owners priorities starts targets work kept → (u : ℕ) → u < length owners → getD kept u 0 ≡ 1 → getD (t .reached) u 0 ≢ 1
+        apart : (kept : List ℕ) → KeptSet tables work kept → (u : ℕ) → u < vertices tables → getD kept u 0 ≡ 1 → getD (t .reached) u 0 ≢ 1
         apart kept h u l one r =
-            never-reopened g (markOf winners) (moveOf moves) (settledOf (length owners) work) (λ w. getD kept w 0 ≡ 1) v u
+            never-reopened g (markOf winners) (moveOf moves) (settledOf (vertices tables) work) (λ w. getD kept w 0 ≡ 1) v u
             (h .closed) (h .settled) vertex unsettled one (leans .leads u l r)
 
-        turned : Turned (markOf winners) (moveOf moves) (settledOf (length owners) work) (markOf winners′) (moveOf moves′) (settledOf (length owners) work′) (gameOf owners priorities starts targets) (λ u. getD (t .reached) u 0 ≡ 1) v m
+        turned : Turned (markOf winners) (moveOf moves) (settledOf (vertices tables) work) (markOf winners′) (moveOf moves′) (settledOf (vertices tables) work′) (gameOf tables) (λ u. getD (t .reached) u 0 ≡ 1) v m
         turned =
             record {
-              here = record { marked = t .mark ∙ e; moved = t .move .here; flag = flag-settled (length owners) work′ v (t .flag) };
+              here = record { marked = t .mark ∙ e; moved = t .move .here; flag = flag-settled (vertices tables) work′ v (t .flag) };
               reopened =
                   λ u l ne r.
                   let o = t .reopened u l ne r in
-                  (λ f. o .flag (settled-flag (length owners) work′ u f), o .mark);
+                  (λ f. o .flag (settled-flag (vertices tables) work′ u f), o .mark);
               elsewhere = same;
             }
 
     -- the step of the lists asks what the engine has
-    pub turnable : Turnable (length priorities) v priorities targets heads nexts sources firsts lasts waiting levels winners moves work
+    pub turnable : Turnable (length (tables .priorities)) v (tables .priorities) (tables .targets) heads nexts sources firsts lasts waiting levels winners moves work
     turnable =
         let t = s .state in
         rw (t .well-formed .level)
@@ -217,20 +217,20 @@ module _
           room = t .winners-long;
           moves-long = t .moves-long;
           levels-long = omega (arith, s .levels-long, s .standing .small);
-          unmarked = t .unmarked;
+          unreached = t .unreached;
           preds = s .preds;
         })
 
     -- and gives a step of the method
     pub stepped :
         {low r : ℕ} {firsts′ lasts′ waiting′ levels′ winners′ moves′ work′ : List ℕ} →
-        SteppedIn (length priorities) v p m k low priorities targets sources firsts lasts waiting levels winners moves work firsts′ lasts′ waiting′ levels′ winners′ moves′ work′ r →
-        Stepped owners priorities starts targets heads nexts sources winners moves work firsts′ lasts′ waiting′ levels′ winners′ moves′ work′
+        SteppedIn (length (tables .priorities)) v p m k low (tables .priorities) (tables .targets) sources firsts lasts waiting levels winners moves work firsts′ lasts′ waiting′ levels′ winners′ moves′ work′ r →
+        Stepped tables heads nexts sources winners moves work firsts′ lasts′ waiting′ levels′ winners′ moves′ work′
     stepped {low} {r} {firsts′} {lasts′} {waiting′} {levels′} {winners′} {moves′} {work′} t =
-        elim (ℕ-discrete p (parityOf (getD priorities v 0))) [
+        elim (ℕ-discrete p (parityOf (getD (tables .priorities) v 0))) [
           | yes e ↦ kept-stepped e (subst (λ (x : ℕ). KeptIn x v m k low firsts lasts waiting levels winners moves work firsts′ lasts′ waiting′ levels′ winners′ moves′ work′ r) level (t .kept e))
-          | no ne ↦ turned-stepped ne (subst (λ (x : ℕ). TurnedIn x v p m k low priorities targets sources levels winners moves work firsts′ lasts′ waiting′ levels′ winners′ moves′ work′ r) level (t .turned ne))
+          | no ne ↦ turned-stepped ne (subst (λ (x : ℕ). TurnedIn x v p m k low (tables .priorities) (tables .targets) sources levels winners moves work firsts′ lasts′ waiting′ levels′ winners′ moves′ work′ r) level (t .turned ne))
         ]
       where
-        level : length priorities ≡ length owners
+        level : length (tables .priorities) ≡ vertices tables
         level = s .state .well-formed .level

@@ -6,27 +6,29 @@ use mathlib.Core.List.{List}
 use native.Mathlib.Omega.{arith}
 use native.Mathlib.Decide.{ℕ-discrete}
 use lib.ListN.{length, getD}
-use Rattle.game.specs.Answer.{markRoom, MarkSet, MoveSet}
-use Rattle.winning.specs.Walk.{Walk, follow}
-use Rattle.reach.specs.Closure.{Allowed, ClosedFrom}
-use Rattle.reach.specs.Work.{section}
-use Rattle.reach.specs.Queue.{SeedableIn, PushedIn, ClosableIn, ClosedIn, ClearableIn, ClearedIn}
+use Rattle.game.specs.promise.Answer.{markRoom}
+use Rattle.game.specs.parts.Answers.{MarkSet, MoveSet}
+use Rattle.winning.specs.promise.Walk.{Walk}
+use Rattle.winning.proofs.Walks.{follow}
+use Rattle.reach.specs.parts.Closure.{Allowed, ClosedFrom}
+use Rattle.reach.specs.parts.Work.{section}
+use Rattle.reach.specs.parts.Queue.{SeedableIn, PushedIn, ClosableIn, ClosedIn, ClearableIn, ClearedIn}
 use Rattle.reach.proofs.Sections.{section-long}
 use Rattle.reach.proofs.Queues.{fresh-in, pushed-queued}
-use Rattle.pick.specs.Lines.{Lines, Covered}
-use Rattle.pick.specs.Order.{NoneBelow}
+use Rattle.pick.specs.parts.Lines.{Lines, Covered}
+use Rattle.pick.specs.parts.Order.{NoneBelow}
 use Rattle.pick.proofs.Picking.{standing-lines}
-use Rattle.levels.specs.Levels.{LevelSet}
-use Rattle.step.specs.Parts.{FlagSet, Keepable, Reopenable, Reopened}
-use Rattle.step.specs.Turning.{Turnable, Reached, TurnedIn}
+use Rattle.levels.specs.parts.Levels.{LevelSet}
+use Rattle.step.specs.parts.Parts.{FlagSet, Keepable, Reopenable, Reopened}
+use Rattle.step.specs.parts.Turning.{Turnable, Reached, TurnedIn}
 
 module _
     {n v : ℕ} {priorities targets heads nexts sources firsts lasts waiting levels winners moves work : List ℕ}
     (p : Turnable n v priorities targets heads nexts sources firsts lasts waiting levels winners moves work)
   where
-    -- nothing is marked yet
+    -- nothing is reached yet
     clean : (u : ℕ) → u < n → getD (section 1 n work) u 0 ≡ 0
-    clean u l = p .unmarked .all u (omega (arith, section-long n work (p .standing .work-long) 1 (omega arith)))
+    clean u l = p .unreached .all u (omega (arith, section-long n work (p .standing .work-long) 1 (omega arith)))
 
     pub seedable : SeedableIn n v work 0
     seedable =
@@ -34,9 +36,9 @@ module _
           long = p .standing .work-long;
           seedable =
               record {
-                queued = fresh-in n work (p .standing .work-long) (p .unmarked);
+                queued = fresh-in n work (p .standing .work-long) (p .unreached);
                 vertex = p .vertex;
-                unmarked = clean v (p .vertex);
+                unreached = clean v (p .vertex);
                 small = p .standing .small;
               };
         }
@@ -101,7 +103,7 @@ module _
               record {
                 long = r .long ∙ reopenable .standing .work-long;
                 small = p .standing .small;
-                queued = rw (r .marks, r .queue) (c .closed .queued);
+                queued = rw (r .reached, r .queue) (c .closed .queued);
               }
 
           pub mark-room : v < markRoom winners₃
@@ -169,7 +171,7 @@ module _
                         record { flag = λ z. o .flag (sym (flag-of u ne) ∙ z); mark = mark .other u ne ∙ o .mark };
                     same-mark = λ u l ne out. mark .other u ne ∙ r .mark u l out;
                     same-flag = same-flag;
-                    unmarked = rw (settled .marks) (d .filled);
+                    unreached = rw (settled .reached) (d .filled);
                     lines = lines′;
                     covered = covered′;
                     none-below = λ b. record { above = above b };

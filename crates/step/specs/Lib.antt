@@ -1,4 +1,1 @@
-pub mod State
-pub mod Stepping
-pub mod Parts
-pub mod Turning
+pub mod parts

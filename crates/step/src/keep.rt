@@ -3,9 +3,9 @@ use crate::test::Line;
 use game::answer::record_move;
 use levels::set_level;
 ghost use lib.ListN.{length};
-ghost use Rattle.game.specs.Answer.{MoveSet};
-ghost use Rattle.levels.specs.Levels.{LevelSet};
-ghost use Rattle.step.specs.Parts.{Keepable, FlagSet};
+ghost use Rattle.game.specs.parts.Answers.{MoveSet};
+ghost use Rattle.levels.specs.parts.Levels.{LevelSet};
+ghost use Rattle.step.specs.parts.Parts.{Keepable, FlagSet};
 
 pub fn keep(v: usize, line: Line, levels: &mut [u16], moves: &mut [u16], work: &mut [u16])
     requires { ⌜ Keepable v (now levels) (now moves) (now work) ⌝ }

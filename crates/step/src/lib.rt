@@ -4,7 +4,7 @@ use crate::test::Line;
 use crate::turn::turn;
 use player::Player;
 ghost use lib.ListN.{length};
-ghost use Rattle.step.specs.Turning.{Turnable, SteppedIn};
+ghost use Rattle.step.specs.parts.Turning.{Turnable, SteppedIn};
 
 pub mod keep;
 pub mod reopen;

@@ -3,8 +3,8 @@ use game::answer::set_mark;
 use pick::lines::stand;
 use player::Player;
 ghost use Prim.Native.Nat.{_≤_};
-ghost use Rattle.pick.specs.Moves.{Standable};
-ghost use Rattle.step.specs.Parts.{OpenedIn, Reopenable, Reopened};
+ghost use Rattle.pick.specs.parts.Moves.{Standable};
+ghost use Rattle.step.specs.parts.Parts.{OpenedIn, Reopenable, Reopened};
 
 fn least(a: usize, b: usize) -> usize
     ensures { λ r. ⌜ (r ≤ a) × (r ≤ b) ⌝ }

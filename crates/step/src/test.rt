@@ -1,11 +1,13 @@
 // The test of a vertex by its successors' marks.
+use game::NONE;
 use game::vertex::Choice;
 use game::vertex::successors;
 use game::vertex::test_vertex;
 use player::Player;
 ghost use mathlib.Core.Path.{_≡_};
 ghost use lib.ListN.{getD};
-ghost use Rattle.step.specs.Parts.{Testable, TestedBy};
+ghost use Rattle.game.specs.promise.Lent.{asked, lent};
+ghost use Rattle.step.specs.parts.Parts.{Testable, TestedBy};
 
 // A line that a vertex may get: who wins it, his move, 65,535 where he does not own it, and a level.
 pub struct Line {
@@ -23,8 +25,8 @@ pub fn test(
     targets: &[u16],
     winners: &[u8],
 ) -> Line
-    requires { ⌜ Testable v (now owners) (now priorities) (now starts) (now targets) (now winners) ⌝ }
-    ensures tested { λ r. ⌜ TestedBy v (now (owners .entry)) (now (priorities .entry)) (now (starts .entry)) (now (targets .entry)) (now (winners .entry)) (r .winner) (r .to) ⌝ }
+    requires { ⌜ Testable v (asked owners priorities starts targets) (now winners) ⌝ }
+    ensures tested { λ r. ⌜ TestedBy v (lent owners priorities starts targets) (now (winners .entry)) (r .winner) (r .to) ⌝ }
     ensures level { λ r. ⌜ r .level ≡ getD (now (priorities .entry)) v 0 ⌝ }
 {
     let bit = owners[v];
@@ -41,7 +43,7 @@ pub fn test(
     let other = owner.opponent();
     Line {
         winner: other.bit,
-        to: 65535,
+        to: NONE,
         level,
     }
 }

@@ -6,7 +6,7 @@ use game::answer::set_mark;
 use reach::closure::clear;
 use reach::closure::close;
 use reach::closure::seed;
-ghost use Rattle.step.specs.Turning.{Turnable, TurnedIn};
+ghost use Rattle.step.specs.parts.Turning.{Turnable, TurnedIn};
 
 // If nothing below `low` is open before, nothing below the result is afterwards.
 pub fn turn(

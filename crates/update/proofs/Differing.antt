@@ -4,12 +4,12 @@ use mathlib.Core.Path.{_≡_}
 use mathlib.Core.Logic.{Dec·not-not}
 use mathlib.Core.List.{List-discrete}
 use native.Mathlib.Decide.{ℕ-discrete}
-use Rattle.game.specs.Game.{Game}
-use Rattle.justification.specs.Start.{Agree}
-use Rattle.update.specs.Amended.{Differs, owner, priority, successors}
+use Rattle.game.specs.promise.Game.{Game}
+use Rattle.justification.specs.parts.Start.{SameAt}
+use Rattle.update.specs.promise.Amended.{Differs, owner, priority, successors}
 
 module _ (g h : Game) (v : ℕ) where
-  pub agree-of : ¬ Differs g h v → Agree g h v
+  pub agree-of : ¬ Differs g h v → SameAt g h v
   agree-of same =
       record {
         owner = Dec·not-not (ℕ-discrete (g .owner v) (h .owner v)) .0 (λ ne. same (owner ne));
@@ -17,7 +17,7 @@ module _ (g h : Game) (v : ℕ) where
         next = Dec·not-not (List-discrete ℕ-discrete (g .next v) (h .next v)) .0 (λ ne. same (successors ne));
       }
 
-  pub same-of : Agree g h v → ¬ Differs g h v
+  pub same-of : SameAt g h v → ¬ Differs g h v
   same-of a (owner ne) = ne (a .owner)
   same-of a (priority ne) = ne (a .priority)
   same-of a (successors ne) = ne (a .next)

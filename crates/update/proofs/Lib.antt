@@ -1,10 +1,8 @@
 pub mod Differing
-pub mod Numbers
+pub mod Counts
 pub mod Reaching
-pub mod SecondRows
-pub mod Lengths
+pub mod SecondKinds
 pub mod Rows
-pub mod Refusals
 pub mod Unique
 pub mod Seeds
 pub mod Copies

@@ -2,87 +2,101 @@
 use Prim.Native.Nat.{ℕ, _<_}
 use mathlib.Core.Path.{_≡_, refl, sym, subst, _∙_}
 use mathlib.Core.List.{List}
-use lib.ListN.{length, getD}
+use lib.ListN.{getD}
+use Rattle.refusal.specs.promise.Row.{None, Gives}
+use Rattle.refusal.specs.promise.Number.{numberOf, saidOf}
+use Rattle.refusal.specs.parts.Found.{testedSaid}
 use Rattle.refusal.specs.declared.Refusal.{Refusal}
-use Rattle.refusal.specs.Found.{saidOf}
-use Rattle.refusal.specs.Row.{None, Gives}
-use Rattle.game.specs.declared.tables.Tables.{Tables}
-use Rattle.game.specs.declared.tables.Tables.the-variants as tables
-use Rattle.game.specs.Tables.{WellFormed}
-use Rattle.game.specs.Answer.{tablesSaid}
+use Rattle.refusal.specs.declared.Tested.{Tested}
+use Rattle.refusal.specs.declared.Tested.the-variants as tested
+use Rattle.refusal.proofs.Rows.{tested-refused, first-left, first-right}
+use Rattle.game.specs.promise.Tables.{gameOf, WellFormed}
+use Rattle.game.specs.promise.Answer.{markOf, moveOf}
+use Rattle.game.specs.promise.Lent.{Lent}
 use Rattle.game.proofs.Stores.{room-is}
 use Rattle.game.proofs.Zeros.{zeroed-more}
 use Rattle.game.proofs.WellFormed.{well-formed}
+use Rattle.winning.specs.promise.Faults.{Accepted}
+use Rattle.winning.proofs.Accepted.{accepted-right}
 use Rattle.checker.specs.declared.Verdict.{Verdict}
 use Rattle.checker.specs.declared.Verdict.the-variants as verdicts
-use Rattle.checker.specs.Checking.{Judgeable, Judged, verdictSaid}
+use Rattle.checker.specs.parts.Judging.{Judgeable, Judged}
+use Rattle.checker.specs.promise.Checking.{verdictSaid, judgeRows}
+use Rattle.checker.proofs.Verdicts.{high}
 use Rattle.update.specs.declared.Updated.{Updated}
 use Rattle.update.specs.declared.Updated.the-variants as updated
-use Rattle.update.specs.Updating.{Input, Updates, updatedSaid}
-use Rattle.update.specs.Refusing.{inputOf, Passes, TestedBy}
-use Rattle.update.specs.Redoing.{Redoable, RedoneTo}
-use Rattle.update.proofs.Lengths.{Lent, lent-of-none}
-use Rattle.update.proofs.Rows.{judged, none-of-free}
-use Rattle.update.proofs.Refusals.{refuses-untouched, refuses-judged}
+use Rattle.update.specs.promise.Updating.{Input, testRows, Updates, updatedSaid}
+use Rattle.update.specs.parts.Redoing.{Redoable, RedoneTo}
+use Rattle.update.proofs.Rows.{Free, free-of-none, not-judging}
 
--- the same input with another work space
-abbrev pub withWork : Input → List ℕ → Input
-withWork i work = inputOf (i .owners) (i .priorities) (i .starts) (i .targets) (i .owners2) (i .priorities2) (i .starts2) (i .targets2) (i .old-winners) (i .old-moves) (i .winners) (i .moves) work
+-- what is lent with another work space
+abbrev pub withWork : Lent → List ℕ → Lent
+withWork l work = record { answer = l .answer; work = work }
 
-module _ (i : Input) where
-  pub refused-early : {t : Tables} {r : Refusal} → t ≡ tables.Refused r → TestedBy i (tablesSaid t) → Updates i (i .winners) (i .moves) (i .work) (saidOf r)
-  refused-early e f = refuses-untouched i (subst (λ (t : Tables). TestedBy i (tablesSaid t)) e f)
+module _ (i : Input) (l : Lent) where
+  -- a refusal before the checker's leaves everything as it was
+  pub refused-early : {t : Tested} {r : Refusal} → t ≡ tested.Refused r → Gives (testRows i l) (testedSaid t) → Updates i l l (saidOf r)
+  refused-early {t} {r} e g =
+      let f = tested-refused (testRows i l) e g in
+      record {
+        first = first-left (testRows i l) (judgeRows (i .first) (i .old)) (numberOf (r .kind)) (r .place) f;
+        same = refl;
+        leaves = record { zeroed = λ j. absurd (not-judging i l f j); same = λ _. refl };
+      }
 
-  pub passed-early : {t : Tables} → t ≡ tables.Passed → TestedBy i (tablesSaid t) → Passes i
-  passed-early e p = subst (λ (t : Tables). TestedBy i (tablesSaid t)) e p
+  module _ (bytes : (v : ℕ) → getD (i .first .priorities) v 0 < 256) (n : None (testRows i l)) where
+    free : Free i l
+    free = free-of-none i l n
 
-  module _ (bytes : (v : ℕ) → getD (i .priorities) v 0 < 256) (p : Passes i) where
-    lent : Lent (length (i .owners)) (length (i .old-winners)) (length (i .old-moves)) (length (i .winners)) (length (i .moves)) (length (i .work))
-    lent = lent-of-none _ _ _ _ _ _ (p .lent)
+    formed : WellFormed (i .first)
+    formed = well-formed (i .first) bytes (free .first)
 
-    formed : WellFormed (i .owners) (i .priorities) (i .starts) (i .targets)
-    formed = well-formed (i .owners) (i .priorities) (i .starts) (i .targets) bytes (p .first)
-
-    pub judging-asks : Judgeable (i .owners) (i .priorities) (i .starts) (i .targets) (i .old-winners) (i .old-moves) (i .work)
+    pub judging-asks : Judgeable (i .first) (i .old) (l .work)
     judging-asks =
         record {
-          answered = record { well-formed = formed; winners-long = room-is _ ∙ lent .old-winners-are; moves-long = lent .old-moves-are };
-          work-long = lent .work-are;
+          answered = record { well-formed = formed; winners-long = room-is _ ∙ free .fit .0; moves-long = free .fit .1 .0 };
+          work-long = free .fit .1 .1 .1 .1 .0;
         }
 
-    module _ {v : Verdict} {work₁ : List ℕ} (j : Judged (i .owners) (i .priorities) (i .starts) (i .targets) (i .old-winners) (i .old-moves) (i .work) work₁ (verdictSaid v)) where
-      pub refused-judged : {q : Refusal} {u : Updated} → v ≡ verdicts.Refused q → u ≡ updated.Refused q → Updates i (i .winners) (i .moves) work₁ (updatedSaid u)
+    module _ {v : Verdict} {work₁ : List ℕ} (j : Judged (i .first) (i .old) (l .work) work₁ (verdictSaid v)) where
+      -- a refusal by the checker leaves the work space all zero
+      pub refused-judged : {q : Refusal} {u : Updated} → v ≡ verdicts.Refused q → u ≡ updated.Refused q → Updates i l (withWork l work₁) (updatedSaid u)
       refused-judged {q} {u} e given =
-          subst (λ (u : Updated). Updates i (i .winners) (i .moves) work₁ (updatedSaid u)) (sym given)
-          (refuses-judged i p (subst (λ (v : Verdict). Gives (judged i) (verdictSaid v)) e (j .gives)) (j .zeroed))
+          let f = subst (λ (v : Verdict). Gives (judgeRows (i .first) (i .old)) (verdictSaid v)) e (j .gives) in
+          subst (λ (u : Updated). Updates i l (withWork l work₁) (updatedSaid u)) (sym given)
+          (record {
+            first = first-right (testRows i l) (judgeRows (i .first) (i .old)) (numberOf (q .kind)) (q .place) n f;
+            same = refl;
+            leaves = record { zeroed = λ _. j .zeroed; same = λ h. absurd (h (high (i .first) (i .old) (l .work) (numberOf (q .kind)) (q .place) f)) };
+          })
 
-      accepted : v ≡ verdicts.Accepted → None (judged i)
-      accepted e = subst (λ (v : Verdict). Gives (judged i) (verdictSaid v)) e (j .gives)
+      accepted : v ≡ verdicts.Accepted → Accepted (gameOf (i .first)) (markOf (i .old .winners)) (moveOf (i .old .moves))
+      accepted e = subst (λ (v : Verdict). Gives (judgeRows (i .first) (i .old)) (verdictSaid v)) e (j .gives)
 
-      pub redoing-asks : ((v : ℕ) → getD (i .priorities2) v 0 < 256) → v ≡ verdicts.Accepted → Redoable (withWork i work₁)
+      pub redoing-asks : ((v : ℕ) → getD (i .second .priorities) v 0 < 256) → v ≡ verdicts.Accepted → Redoable i (withWork l work₁)
       redoing-asks bytes2 e =
+          let f = free .fit in
           record {
-            paired = record { first = formed; second = well-formed (i .owners2) (i .priorities2) (i .starts2) (i .targets2) bytes2 (p .second); size = p .size };
-            old-winners-room = room-is _ ∙ lent .old-winners-are;
-            old-moves-long = lent .old-moves-are;
-            winners-room = room-is _ ∙ lent .winners-are;
-            moves-long = lent .moves-are;
-            work-long = j .zeroed .long ∙ lent .work-are;
+            paired = record { first = formed; second = well-formed (i .second) bytes2 (free .second); size = free .size };
+            fit = (f .0, (f .1 .0, (f .1 .1 .0, (f .1 .1 .1 .0, (j .zeroed .long ∙ f .1 .1 .1 .1 .0, tt)))));
             accepted = accepted e;
             blank = record { all = j .zeroed .zero };
           }
 
-      pub done : {winners′ moves′ work′ : List ℕ} {count : ℕ} → v ≡ verdicts.Accepted → RedoneTo (withWork i work₁) winners′ moves′ work′ count → Updates i winners′ moves′ work′ (updatedSaid (updated.Done count))
-      done {count} e r =
+      pub done : {after : Lent} {count : ℕ} → v ≡ verdicts.Accepted → RedoneTo i (withWork l work₁) after count → Updates i l after (updatedSaid (updated.Done count))
+      done {after} {count} e r =
           record {
-            none = none-of-free i (record { first = p .first; second = p .second; size = p .size; lent = p .lent; accepted = accepted e });
+            none = n;
+            right = accepted-right (gameOf (i .first)) (markOf (i .old .winners)) (moveOf (i .old .moves)) (accepted e);
             count = count;
             value = refl;
-            number = r .number;
-            winners-long = r .winners-long;
-            moves-long = r .moves-long;
-            accepted = r .accepted;
-            kept-mark = r .kept-mark;
-            kept-move = r .kept-move;
-            zeroed = zeroed-more (j .zeroed) (r .zeroed);
+            counted = r .counted;
+            written =
+                record {
+                  winners-long = r .written .winners-long;
+                  moves-long = r .written .moves-long;
+                  solution = r .written .solution;
+                  zeroed = zeroed-more (j .zeroed) (r .written .zeroed);
+                };
+            kept = r .kept;
           }

@@ -6,23 +6,23 @@ use native.Mathlib.Nat.{not-suc-le-zero}
 use native.Mathlib.Omega.{arith}
 use borrow.Author.Count.{below-more}
 use lib.ListN.{getD, set}
-use Rattle.player.specs.Player.{parityOf}
-use Rattle.game.specs.Answer.{markOf, moveOf, MarkSet, MoveSet}
-use Rattle.winning.specs.Answer.{noMove}
-use Rattle.reach.specs.Work.{section}
-use Rattle.reach.specs.Lists.{Filled}
+use Rattle.player.specs.promise.Player.{parityOf}
+use Rattle.game.specs.promise.Answer.{markOf, moveOf}
+use Rattle.game.specs.parts.Answers.{MarkSet, MoveSet}
+use Rattle.reach.specs.parts.Work.{section}
+use Rattle.reach.specs.parts.Lists.{Filled}
 use Rattle.reach.proofs.Stores.{at-set}
 use Rattle.reach.proofs.Sections.{section-long, section-filled, Stored, stored}
-use Rattle.update.specs.Deciding.{Chosen, Preparable, Prepared}
+use Rattle.update.specs.parts.Deciding.{Chosen, Preparable, Prepared}
 
-module _ {n : ℕ} {priorities old-winners old-moves marks : List ℕ} where
-  pub prepared-none : {winners moves work : List ℕ} → Preparable n priorities old-winners old-moves marks winners moves work → Prepared n priorities old-winners old-moves marks winners moves work 0
+module _ {n : ℕ} {priorities old-winners old-moves reached : List ℕ} where
+  pub prepared-none : {winners moves work : List ℕ} → Preparable n priorities old-winners old-moves reached winners moves work → Prepared n priorities old-winners old-moves reached winners moves work 0
   prepared-none {winners} {moves} {work} p =
       record {
         winner = λ u l. absurd (not-suc-le-zero l);
         move = λ u l. absurd (not-suc-le-zero l);
         flag = λ u l. absurd (not-suc-le-zero l);
-        unmarked = section-filled n work (p .work-long) (p .blank) 1 (omega arith);
+        unreached = section-filled n work (p .work-long) (p .blank) 1 (omega arith);
         winners-room = p .winners-room;
         moves-long = p .moves-long;
         work-long = p .work-long;
@@ -30,25 +30,25 @@ module _ {n : ℕ} {priorities old-winners old-moves marks : List ℕ} where
 
   -- the line of v is stored
   pub prepared-more :
-      {winners moves work winners′ moves′ : List ℕ} {v p m x : ℕ} → Prepared n priorities old-winners old-moves marks winners moves work v → v < n →
-      Chosen (getD marks v 0) (markOf old-winners v) (parityOf (getD priorities v 0)) p → MarkSet winners winners′ v p →
-      Chosen (getD marks v 0) (moveOf old-moves v) noMove m → MoveSet moves moves′ v m →
-      x ≡ getD marks v 0 → Prepared n priorities old-winners old-moves marks winners′ moves′ (set work v x) (v + 1)
+      {winners moves work winners′ moves′ : List ℕ} {v p m x : ℕ} → Prepared n priorities old-winners old-moves reached winners moves work v → v < n →
+      Chosen (getD reached v 0) (markOf old-winners v) (parityOf (getD priorities v 0)) p → MarkSet winners winners′ v p →
+      m ≡ moveOf old-moves v → MoveSet moves moves′ v m →
+      x ≡ getD reached v 0 → Prepared n priorities old-winners old-moves reached winners′ moves′ (set work v x) (v + 1)
   prepared-more {winners} {moves} {work} {winners′} {moves′} {v} {p} {m} {x} d l cp sp cm sm e =
       record {
         winner =
-            below-more (λ u. Chosen (getD marks u 0) (markOf old-winners u) (parityOf (getD priorities u 0)) (markOf winners′ u)) v
-            (λ u k. subst (Chosen (getD marks u 0) (markOf old-winners u) (parityOf (getD priorities u 0))) (sym (sp .other u (omega arith))) (d .winner u k))
-            (subst (Chosen (getD marks v 0) (markOf old-winners v) (parityOf (getD priorities v 0))) (sym (sp .here)) cp);
+            below-more (λ u. Chosen (getD reached u 0) (markOf old-winners u) (parityOf (getD priorities u 0)) (markOf winners′ u)) v
+            (λ u k. subst (Chosen (getD reached u 0) (markOf old-winners u) (parityOf (getD priorities u 0))) (sym (sp .other u (omega arith))) (d .winner u k))
+            (subst (Chosen (getD reached v 0) (markOf old-winners v) (parityOf (getD priorities v 0))) (sym (sp .here)) cp);
         move =
-            below-more (λ u. Chosen (getD marks u 0) (moveOf old-moves u) noMove (moveOf moves′ u)) v
-            (λ u k. subst (Chosen (getD marks u 0) (moveOf old-moves u) noMove) (sym (sm .other u (omega arith))) (d .move u k))
-            (subst (Chosen (getD marks v 0) (moveOf old-moves v) noMove) (sym (sm .here)) cm);
+            below-more (λ u. moveOf moves′ u ≡ moveOf old-moves u) v
+            (λ u k. sm .other u (omega arith) ∙ d .move u k)
+            (sm .here ∙ cm);
         flag =
             λ u k.
             ap (λ (c : List ℕ). getD c u 0) (s .here) ∙
-            at-set (λ j y. y ≡ getD marks j 0) (section 0 n work) v x (omega (arith, section-long n work (d .work-long) 0 (omega arith))) e u (λ ne. d .flag u (omega arith));
-        unmarked = subst (λ (s : List ℕ). Filled s 0) (sym (s .other 1 (omega arith) (omega arith))) (d .unmarked);
+            at-set (λ j y. y ≡ getD reached j 0) (section 0 n work) v x (omega (arith, section-long n work (d .work-long) 0 (omega arith))) e u (λ ne. d .flag u (omega arith));
+        unreached = subst (λ (s : List ℕ). Filled s 0) (sym (s .other 1 (omega arith) (omega arith))) (d .unreached);
         winners-room = sp .room ∙ d .winners-room;
         moves-long = sm .long ∙ d .moves-long;
         work-long = s .long ∙ d .work-long;
@@ -57,13 +57,13 @@ module _ {n : ℕ} {priorities old-winners old-moves marks : List ℕ} where
       s : Stored n 0 v x work (set work v x)
       s = stored 0 v (d .work-long) (omega arith) (omega arith) l
 
-  pub prepared-all : {winners moves work : List ℕ} {v : ℕ} → n ≤ v → Prepared n priorities old-winners old-moves marks winners moves work v → Prepared n priorities old-winners old-moves marks winners moves work n
+  pub prepared-all : {winners moves work : List ℕ} {v : ℕ} → n ≤ v → Prepared n priorities old-winners old-moves reached winners moves work v → Prepared n priorities old-winners old-moves reached winners moves work n
   prepared-all l d =
       record {
         winner = λ u k. d .winner u (omega arith);
         move = λ u k. d .move u (omega arith);
         flag = λ u k. d .flag u (omega arith);
-        unmarked = d .unmarked;
+        unreached = d .unreached;
         winners-room = d .winners-room;
         moves-long = d .moves-long;
         work-long = d .work-long;

@@ -1,83 +1,80 @@
--- The update's rows in their order: what is known when the first of them is given at each place of the order, and when none is.
-use Prim.Native.Nat.{ℕ, _+_}
-use mathlib.Core.Path.{_≡_, refl}
-use mathlib.Core.Logic.{_≢_, inl, inr, Dec·not-not}
-use mathlib.Core.List.{List, _∷_, _++_}
+-- The update's rows: what is known when none of those before the checker's applies, and what a refusal by them is.
+use Prim.Native.Nat.{ℕ, _+_, _%_, _<_}
+use mathlib.Core.Path.{_≡_, refl, sym, ap, subst}
+use mathlib.Core.Logic.{inl, inr, Dec·not-not}
+use mathlib.Core.List.{List, [], _∷_, _++_}
 use native.Mathlib.Decide.{ℕ-discrete}
-use native.Mathlib.Nat.{not-suc-le-zero}
-use lib.ListN.{length}
-use Rattle.refusal.specs.Row.{Row, Lowest, NoPlace, None, First, none-append, none-left, none-right, first-left, first-right}
-use Rattle.game.specs.Faults.{tableRows}
-use Rattle.game.specs.Answer.{markOf, moveOf}
-use Rattle.winning.specs.Answer.{answerRows}
-use Rattle.update.specs.Updating.{Input, Fault8, Fault9, firstGame, secondRows, updateRows}
-use Rattle.update.proofs.SecondRows.{first-second}
+use native.Mathlib.Omega.{arith}
+use Rattle.refusal.specs.promise.Row.{Row, row, None, First}
+use Rattle.refusal.specs.promise.Number.{numberOf}
+use Rattle.refusal.specs.declared.Kind.{Kind}
+use Rattle.refusal.specs.declared.Kind.the-variants.{Game, Second}
+use Rattle.refusal.specs.declared.TableFault.{TableFault}
+use Rattle.refusal.proofs.Rows.{none-append, none-left, none-right, first-left, first-right, first-number}
+use Rattle.game.specs.promise.Tables.{vertices}
+use Rattle.game.specs.promise.Faults.{tableRows}
+use Rattle.game.specs.promise.Lent.{Lent, Fit, Fault8, Judging}
+use Rattle.game.proofs.Sizes.{fit-of-none, none-of-fit}
+use Rattle.update.specs.promise.Updating.{Input, secondRows, Fault9, updateSizes, testRows}
+use Rattle.update.proofs.SecondKinds.{second-number}
 
-module _ (i : Input) where
-  abbrev pub rows1 : List Row
-  rows1 = tableRows (i .owners) (i .priorities) (i .starts) (i .targets)
+-- the rows of the second game apply where its tables' rows do
 
-  abbrev pub rows2 : List Row
-  rows2 = tableRows (i .owners2) (i .priorities2) (i .starts2) (i .targets2)
+first-second : (rows : List Row) (k x : ℕ) → First rows k x → First (secondRows rows) (20 + k) x
+first-second [] k x f = f
+first-second (r ∷ rows) k x (inl here) = inl (ap (λ (j : ℕ). 20 + j) (here .0), here .1)
+first-second (r ∷ rows) k x (inr later) = inr (later .0, first-second rows k x (later .1))
 
-  abbrev pub Short : ℕ → Type 0
-  Short = Fault8 (length (i .owners)) (length (i .old-winners)) (length (i .old-moves)) (length (i .winners)) (length (i .moves)) (length (i .work))
+pub none-second : (rows : List Row) → None rows → None (secondRows rows)
+none-second [] n = tt
+none-second (r ∷ rows) n = (n .0, none-second rows (n .1))
 
-  abbrev pub judged : List Row
-  judged = answerRows (firstGame i) (markOf (i .old-winners)) (moveOf (i .old-moves))
+second-none : (rows : List Row) → None (secondRows rows) → None rows
+second-none [] n = tt
+second-none (r ∷ rows) n = (n .0, second-none rows (n .1))
 
-  abbrev buffered : List Row
-  buffered = record { number = 8; applies = Short } ∷ judged
+module _ (i : Input) (l : Lent) where
+  abbrev pub games : List Row
+  games = tableRows (i .first) ++ secondRows (tableRows (i .second))
 
-  abbrev sized : List Row
-  sized = record { number = 9; applies = Fault9 (length (i .owners)) (length (i .owners2)) } ∷ buffered
+  abbrev pub sizes : List Row
+  sizes = row 9 (Fault9 (vertices (i .first)) (vertices (i .second))) ∷ row 8 (Fault8 (updateSizes i l)) ∷ []
 
-  -- the second game's rows and those after them
-  abbrev amended : List Row
-  amended = secondRows rows2 ++ sized
-
-  -- none of the rows: none of each part
+  -- both games pass 1 to 7, are equally large, and the lists fit
   pub record Free : Type 0 where
-    pub first : None rows1
-    pub second : None rows2
-    pub size : length (i .owners) ≡ length (i .owners2)
-    pub lent : NoPlace Short
-    pub accepted : None judged
+    pub first : None (tableRows (i .first))
+    pub second : None (tableRows (i .second))
+    pub size : vertices (i .first) ≡ vertices (i .second)
+    pub fit : Fit (updateSizes i l)
 
-  no9 : length (i .owners) ≡ length (i .owners2) → NoPlace (Fault9 (length (i .owners)) (length (i .owners2)))
-  no9 e x f = f .differ e
-
-  pub none-of-free : Free → None (updateRows i)
-  none-of-free f = none-append rows1 amended (f .first) (none-append (secondRows rows2) sized (f .second) (no9 (f .size), (f .lent, f .accepted)))
-
-  pub free-of-none : None (updateRows i) → Free
-  free-of-none none =
-      let later = none-right rows1 amended none in
-      let last = none-right (secondRows rows2) sized later in
+  pub free-of-none : None (testRows i l) → Free
+  free-of-none n =
+      let both = none-left games sizes n in
+      let rest = none-right games sizes n in
       record {
-        first = none-left rows1 amended none;
-        second = none-left (secondRows rows2) sized later;
-        size = Dec·not-not (ℕ-discrete (length (i .owners)) (length (i .owners2))) .0 (λ ne. last .0 0 (record { place = refl; differ = ne }));
-        lent = last .1 .0;
-        accepted = last .1 .1;
+        first = none-left (tableRows (i .first)) (secondRows (tableRows (i .second))) both;
+        second = second-none (tableRows (i .second)) (none-right (tableRows (i .first)) (secondRows (tableRows (i .second))) both);
+        size = Dec·not-not (ℕ-discrete (vertices (i .first)) (vertices (i .second))) .0 (λ ne. rest .0 0 (record { place = refl; differ = ne }));
+        fit = fit-of-none _ (rest .1 .0);
       }
 
-  -- the first row that applies is one of the first game, of the second, 9, 8, or of the old answer
+  pub none-of-free : Free → None (testRows i l)
+  none-of-free f =
+      none-append games sizes (none-append (tableRows (i .first)) (secondRows (tableRows (i .second))) (f .first) (none-second (tableRows (i .second)) (f .second)))
+      ((λ x h. h .differ (f .size)), (none-of-fit _ (f .fit), tt))
 
-  pub first-1 : (k x : ℕ) → First rows1 k x → First (updateRows i) k x
-  first-1 k x f = first-left rows1 amended k x f
+  -- a fault of the second game, its kind shifted
+  pub refused-second :
+      {k r : Kind} {x : ℕ} → None (tableRows (i .first)) → ((f : TableFault) → k ≡ Game f → r ≡ Second f) →
+      First (tableRows (i .second)) (numberOf k) x → First (testRows i l) (numberOf r) x
+  refused-second {k} {r} {x} n h f =
+      let rows2 = tableRows (i .second) in
+      let low : numberOf k < 8 = first-number (λ (m : ℕ). m < 8) rows2 (numberOf k) x (omega arith) f in
+      let there = first-right (tableRows (i .first)) (secondRows rows2) (20 + numberOf k) x n (first-second rows2 (numberOf k) x f) in
+      subst (λ (m : ℕ). First (testRows i l) m x) (sym (second-number k r h low)) (first-left games sizes (20 + numberOf k) x there)
 
-  pub first-2 : (k x : ℕ) → None rows1 → First rows2 k x → First (updateRows i) (20 + k) x
-  first-2 k x a f = first-right rows1 amended (20 + k) x a (first-left (secondRows rows2) sized (20 + k) x (first-second rows2 k x f))
-
-  later : (k x : ℕ) → None rows1 → None rows2 → First sized k x → First (updateRows i) k x
-  later k x a b f = first-right rows1 amended k x a (first-right (secondRows rows2) sized k x b f)
-
-  pub first-9 : None rows1 → None rows2 → length (i .owners) ≢ length (i .owners2) → First (updateRows i) 9 0
-  first-9 a b ne = later 9 0 a b (inl (refl, record { holds = record { place = refl; differ = ne }; lower = λ y l f. not-suc-le-zero l }))
-
-  pub first-8 : (x : ℕ) → None rows1 → None rows2 → length (i .owners) ≡ length (i .owners2) → Lowest Short x → First (updateRows i) 8 x
-  first-8 x a b e f = later 8 x a b (inr (no9 e, inl (refl, f)))
-
-  pub first-judged : (k x : ℕ) → None rows1 → None rows2 → length (i .owners) ≡ length (i .owners2) → NoPlace Short → First judged k x → First (updateRows i) k x
-  first-judged k x a b e c f = later k x a b (inr (no9 e, inr (c, f)))
+  -- none of these rows judges the answer
+  pub not-judging : {k x : ℕ} → First (testRows i l) k x → Judging k → ⊥
+  not-judging {k} {x} f j =
+      let low : k % 20 < 11 = first-number (λ (m : ℕ). m % 20 < 11) (testRows i l) k x (omega arith) f in
+      omega (arith, j .least, j .most)

@@ -7,12 +7,12 @@ use native.Mathlib.Nat.{not-suc-le-zero}
 use native.Mathlib.Omega.{arith}
 use borrow.Author.Count.{below-more}
 use lib.ListN.{length, getD, List·getD-eq-default}
-use Rattle.reach.specs.Work.{section}
-use Rattle.reach.specs.Lists.{Filled}
-use Rattle.reach.specs.Queue.{SeedableIn, PushedIn}
+use Rattle.reach.specs.parts.Work.{section}
+use Rattle.reach.specs.parts.Lists.{Filled}
+use Rattle.reach.specs.parts.Queue.{SeedableIn, PushedIn}
 use Rattle.reach.proofs.Sections.{beside-none, beside-more, section-long, section-filled}
 use Rattle.reach.proofs.Queues.{filled-queued, pushed-queued}
-use Rattle.update.specs.Marking.{Seeding}
+use Rattle.update.specs.parts.Marking.{Seeding}
 
 -- a flag that is 1 stands below n
 pub flag-within : {n : ℕ} (flags : List ℕ) (u : ℕ) → length flags ≡ n → getD flags u 0 ≡ 1 → u < n
@@ -50,12 +50,12 @@ module _ {P : ℕ → Type 0} {n : ℕ} {before : List ℕ} (long : length befor
     seeding-asks small l =
         record {
           long = s .beside .long ∙ long;
-          seedable = record { queued = s .queued; vertex = l; unmarked = unmarked; small = small };
+          seedable = record { queued = s .queued; vertex = l; unreached = unreached; small = small };
         }
       where
         -- what is marked stands below v
-        unmarked : getD (section 1 n after) v 0 ≡ 0
-        unmarked =
+        unreached : getD (section 1 n after) v 0 ≡ 0
+        unreached =
             let f = s .queued .flag v l in
             elim (ℕ-discrete (getD (section 1 n after) v 0) 1) [ yes e ↦ absurd (omega (arith, s .sound v e .1)) | no h ↦ omega arith ]
 

@@ -1,6 +1,2 @@
-pub mod Amended
-pub mod Updating
-pub mod Marking
-pub mod Deciding
-pub mod Refusing
-pub mod Redoing
+pub mod promise
+pub mod parts

@@ -3,10 +3,11 @@ use game::vertex::successors;
 ghost use mathlib.Core.Path.{_≡_};
 ghost use Prim.Native.Nat.{_<_};
 ghost use lib.ListN.{length};
-ghost use Rattle.game.specs.Tables.{gameOf};
-ghost use Rattle.update.specs.Amended.{Differs};
-ghost use Rattle.checker.specs.Tests.{Says};
-ghost use Rattle.update.specs.Marking.{Paired};
+ghost use Rattle.game.specs.promise.Tables.{gameOf};
+ghost use Rattle.game.specs.promise.Lent.{asked, lent};
+ghost use Rattle.update.specs.promise.Amended.{Differs};
+ghost use Rattle.checker.specs.parts.Tests.{Says};
+ghost use Rattle.update.specs.parts.Marking.{Paired};
 
 // Whether two stretches hold the same numbers.
 fn same_stretch(a: &[u16], b: &[u16]) -> bool
@@ -38,8 +39,8 @@ pub fn differs(
     starts2: &[u16],
     targets2: &[u16],
 ) -> bool
-    requires { ⌜ (v < length (now owners)) × Paired (now owners) (now priorities) (now starts) (now targets) (now owners2) (now priorities2) (now starts2) (now targets2) ⌝ }
-    ensures { λ r. ⌜ Says (Differs (gameOf (now (owners .entry)) (now (priorities .entry)) (now (starts .entry)) (now (targets .entry))) (gameOf (now (owners2 .entry)) (now (priorities2 .entry)) (now (starts2 .entry)) (now (targets2 .entry))) v) r ⌝ }
+    requires { ⌜ (v < length (now owners)) × Paired (asked owners priorities starts targets) (asked owners2 priorities2 starts2 targets2) ⌝ }
+    ensures { λ r. ⌜ Says (Differs (gameOf (lent owners priorities starts targets)) (gameOf (lent owners2 priorities2 starts2 targets2)) v) r ⌝ }
 {
     if owners[v] != owners2[v] {
         return true;

@@ -6,60 +6,48 @@ use game::answer::set_mark;
 use player::Player;
 use reach::cells::fill;
 use solver::settle::settle;
-ghost use mathlib.Core.Path.{_≡_};
-ghost use Prim.Native.Nat.{_<_, _≤_};
+ghost use Prim.Native.Nat.{_<_};
 ghost use lib.ListN.{length, getD};
-ghost use Rattle.player.specs.Player.{parityOf};
-ghost use Rattle.game.specs.Answer.{markRoom, markOf, moveOf};
-ghost use Rattle.winning.specs.Answer.{noMove};
-ghost use Rattle.update.specs.Deciding.{Chosen, Preparable, Prepared, Decidable, DecidedAnew};
+ghost use Rattle.player.specs.promise.Player.{parityOf};
+ghost use Rattle.game.specs.promise.Answer.{markRoom, markOf};
+ghost use Rattle.game.specs.promise.Lent.{asked, lent};
+ghost use Rattle.update.specs.parts.Deciding.{Chosen, Preparable, Prepared, Decidable, DecidedAnew};
 
 // The mark that v starts with: its old one, or if v is marked that of its priority's parity.
-fn start_mark(v: usize, priorities: &[u8], old_winners: &[u8], marks: &[u8]) -> u8
-    requires { ⌜ (v < length (now priorities)) × (v < markRoom (now «old_winners»)) × (v < length (now marks)) ⌝ }
-    ensures { λ r. ⌜ Chosen (getD (now (marks .entry)) v 0) (markOf (now («old_winners» .entry)) v) (parityOf (getD (now (priorities .entry)) v 0)) r ⌝ }
+fn start_mark(v: usize, priorities: &[u8], old_winners: &[u8], reached: &[u8]) -> u8
+    requires { ⌜ (v < length (now priorities)) × (v < markRoom (now «old_winners»)) × (v < length (now reached)) ⌝ }
+    ensures { λ r. ⌜ Chosen (getD (now (reached .entry)) v 0) (markOf (now («old_winners» .entry)) v) (parityOf (getD (now (priorities .entry)) v 0)) r ⌝ }
 {
-    if marks[v] == 0 {
+    if reached[v] == 0 {
         return mark(old_winners, v);
     }
     Player::of_priority(priorities[v]).bit
 }
 
-// The move that v starts with: its old one, or if v is marked none.
-fn start_move(v: usize, old_moves: &[u16], marks: &[u8]) -> u16
-    requires { ⌜ (v < length (now «old_moves»)) × (v < length (now marks)) ⌝ }
-    ensures { λ r. ⌜ Chosen (getD (now (marks .entry)) v 0) (moveOf (now («old_moves» .entry)) v) noMove r ⌝ }
-{
-    if marks[v] != 0 {
-        return 65535;
-    }
-    recorded(old_moves, v)
-}
-
-// The engine's start: unmarked vertices settled with their old lines, marked ones open.
+// The engine's start: unreached vertices settled with their old lines, marked ones open. The move of an open vertex is never read.
 fn prepare(
     n: usize,
     priorities: &[u8],
     old_winners: &[u8],
     old_moves: &[u16],
-    marks: &[u8],
+    reached: &[u8],
     winners: &mut [u8],
     moves: &mut [u16],
     work: &mut [u16],
 )
-    requires { ⌜ Preparable n (now priorities) (now «old_winners») (now «old_moves») (now marks) (now winners) (now moves) (now work) ⌝ }
-    ensures { λ _. ⌜ Prepared n (now (priorities .entry)) (now («old_winners» .entry)) (now («old_moves» .entry)) (now (marks .entry)) (now (winners .exit)) (now (moves .exit)) (now (work .exit)) n ⌝ }
+    requires { ⌜ Preparable n (now priorities) (now «old_winners») (now «old_moves») (now reached) (now winners) (now moves) (now work) ⌝ }
+    ensures { λ _. ⌜ Prepared n (now (priorities .entry)) (now («old_winners» .entry)) (now («old_moves» .entry)) (now (reached .entry)) (now (winners .exit)) (now (moves .exit)) (now (work .exit)) n ⌝ }
 {
     let mut v = 0;
     while v < n {
-        set_mark(winners, v, start_mark(v, priorities, old_winners, marks));
-        record_move(moves, v, start_move(v, old_moves, marks));
-        work[v] = marks[v] as u16;
+        set_mark(winners, v, start_mark(v, priorities, old_winners, reached));
+        record_move(moves, v, recorded(old_moves, v));
+        work[v] = reached[v] as u16;
         v += 1;
     }
 }
 
-// Writes an accepted answer to the game in which every unmarked vertex has its old line.
+// Writes an accepted answer to the game in which every unreached vertex has its old line.
 pub fn decide(
     owners: &[u8],
     priorities: &[u8],
@@ -70,13 +58,13 @@ pub fn decide(
     sources: &[u16],
     old_winners: &[u8],
     old_moves: &[u16],
-    marks: &[u8],
+    reached: &[u8],
     winners: &mut [u8],
     moves: &mut [u16],
     work: &mut [u16],
 )
-    requires { ⌜ Decidable (now owners) (now priorities) (now starts) (now targets) (now «old_winners») (now «old_moves») (now marks) (now heads) (now nexts) (now sources) (now winners) (now moves) (now work) ⌝ }
-    ensures { λ _. ⌜ DecidedAnew (now (owners .entry)) (now (priorities .entry)) (now (starts .entry)) (now (targets .entry)) (now («old_winners» .entry)) (now («old_moves» .entry)) (now (marks .entry)) (now (winners .entry)) (now (moves .entry)) (now (work .entry)) (now (winners .exit)) (now (moves .exit)) (now (work .exit)) ⌝ }
+    requires { ⌜ Decidable (asked owners priorities starts targets) (now «old_winners») (now «old_moves») (now reached) (now heads) (now nexts) (now sources) (now winners) (now moves) (now work) ⌝ }
+    ensures { λ _. ⌜ DecidedAnew (lent owners priorities starts targets) (now («old_winners» .entry)) (now («old_moves» .entry)) (now (reached .entry)) (now (winners .entry)) (now (moves .entry)) (now (work .entry)) (now (winners .exit)) (now (moves .exit)) (now (work .exit)) ⌝ }
 {
     let n = owners.len();
     prepare(
@@ -84,7 +72,7 @@ pub fn decide(
         priorities,
         old_winners,
         old_moves,
-        marks,
+        reached,
         winners,
         moves,
         work,

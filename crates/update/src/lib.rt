@@ -1,23 +1,27 @@
-// The update from one game to an amended one: checked lines that no amendment reaches are kept, all others decided anew.
+// The update: lines of a checked answer that no amendment reaches are kept, all others decided anew.
 use crate::deciding::decide;
-use crate::marking::mark_reaching;
+use crate::marking::find_reached;
 use crate::refuse::test_input;
 use checker::Verdict;
 use checker::judge;
-use game::tables::Tables;
+use game::EDGES;
+use game::NONE;
+use game::VERTICES;
 use reach::cells::fill;
 use reach::lists::predecessors;
 use refusal::Refusal;
+use refusal::Tested;
 ghost use mathlib.Core.Path.{_≡_};
+ghost use Rattle.refusal.specs.promise.Row.{None};
 ghost use Rattle.refusal.specs.declared.Refusal.{Refusal};
-ghost use Rattle.update.specs.Updating.{Updates, updatedSaid};
-ghost use Rattle.update.specs.Refusing.{inputOf, Passes};
-ghost use Rattle.update.specs.Redoing.{Redoable, RedoneTo};
+ghost use Rattle.game.specs.promise.Lent.{asked, lent, claim, claimed, buffers, given, left};
+ghost use Rattle.update.specs.promise.Updating.{Updates, updatedSaid, inputOf, testRows};
+ghost use Rattle.update.specs.parts.Redoing.{Redoable, RedoneTo};
 
-pub mod compare;
-pub mod deciding;
-pub mod marking;
-pub mod refuse;
+mod compare;
+mod deciding;
+mod marking;
+mod refuse;
 
 // The number of vertices that reach an amended one, or the first refusal that applies.
 pub enum Updated {
@@ -42,17 +46,17 @@ fn redo(
     moves: &mut [u16],
     work: &mut [u16],
 ) -> usize
-    requires { ⌜ Redoable (inputOf (now owners) (now priorities) (now starts) (now targets) (now owners2) (now priorities2) (now starts2) (now targets2) (now «old_winners») (now «old_moves») (now winners) (now moves) (now work)) ⌝ }
-    ensures { λ r. ⌜ RedoneTo (inputOf (now (owners .entry)) (now (priorities .entry)) (now (starts .entry)) (now (targets .entry)) (now (owners2 .entry)) (now (priorities2 .entry)) (now (starts2 .entry)) (now (targets2 .entry)) (now («old_winners» .entry)) (now («old_moves» .entry)) (now (winners .entry)) (now (moves .entry)) (now (work .entry))) (now (winners .exit)) (now (moves .exit)) (now (work .exit)) r ⌝ }
+    requires { ⌜ Redoable (inputOf (asked owners priorities starts targets) (asked owners2 priorities2 starts2 targets2) (claim «old_winners» «old_moves»)) (buffers winners moves work) ⌝ }
+    ensures { λ r. ⌜ RedoneTo (inputOf (lent owners priorities starts targets) (lent owners2 priorities2 starts2 targets2) (claimed «old_winners» «old_moves»)) (given winners moves work) (left winners moves work) r ⌝ }
 {
     let n = owners2.len();
-    let mut heads = [0u16; 2048];
-    let mut nexts = [0u16; 16384];
-    let mut sources = [0u16; 16384];
-    let mut marks = [0u8; 2048];
+    let mut heads = [0u16; VERTICES];
+    let mut nexts = [0u16; EDGES];
+    let mut sources = [0u16; EDGES];
+    let mut reached = [0u8; VERTICES];
     predecessors(n, starts2, targets2, &mut heads, &mut nexts, &mut sources);
-    fill(moves, 65535);
-    let count = mark_reaching(
+    fill(moves, NONE);
+    let count = find_reached(
         owners,
         priorities,
         starts,
@@ -65,7 +69,7 @@ fn redo(
         &nexts,
         &sources,
         moves,
-        &mut marks,
+        &mut reached,
         work,
     );
     decide(
@@ -78,7 +82,7 @@ fn redo(
         &sources,
         old_winners,
         old_moves,
-        &marks,
+        &reached,
         winners,
         moves,
         work,
@@ -96,7 +100,7 @@ fn given(verdict: Verdict) -> Updated
     Updated::Refused(r)
 }
 
-// Runs the checker over the old answer and goes on only if it is accepted.
+// The checker's verdict on the old answer comes first; a refusal ends the update.
 fn amend(
     owners: &[u8],
     priorities: &[u8],
@@ -112,8 +116,8 @@ fn amend(
     moves: &mut [u16],
     work: &mut [u16],
 ) -> Updated
-    requires { ⌜ Passes (inputOf (now owners) (now priorities) (now starts) (now targets) (now owners2) (now priorities2) (now starts2) (now targets2) (now «old_winners») (now «old_moves») (now winners) (now moves) (now work)) ⌝ }
-    ensures { λ r. ⌜ Updates (inputOf (now (owners .entry)) (now (priorities .entry)) (now (starts .entry)) (now (targets .entry)) (now (owners2 .entry)) (now (priorities2 .entry)) (now (starts2 .entry)) (now (targets2 .entry)) (now («old_winners» .entry)) (now («old_moves» .entry)) (now (winners .entry)) (now (moves .entry)) (now (work .entry))) (now (winners .exit)) (now (moves .exit)) (now (work .exit)) (updatedSaid r) ⌝ }
+    requires { ⌜ None (testRows (inputOf (asked owners priorities starts targets) (asked owners2 priorities2 starts2 targets2) (claim «old_winners» «old_moves»)) (buffers winners moves work)) ⌝ }
+    ensures { λ r. ⌜ Updates (inputOf (lent owners priorities starts targets) (lent owners2 priorities2 starts2 targets2) (claimed «old_winners» «old_moves»)) (given winners moves work) (left winners moves work) (updatedSaid r) ⌝ }
 {
     let verdict = judge(
         owners,
@@ -161,7 +165,7 @@ pub fn update(
     moves: &mut [u16],
     work: &mut [u16],
 ) -> Updated
-    ensures { λ r. ⌜ Updates (inputOf (now (owners .entry)) (now (priorities .entry)) (now (starts .entry)) (now (targets .entry)) (now (owners2 .entry)) (now (priorities2 .entry)) (now (starts2 .entry)) (now (targets2 .entry)) (now («old_winners» .entry)) (now («old_moves» .entry)) (now (winners .entry)) (now (moves .entry)) (now (work .entry))) (now (winners .exit)) (now (moves .exit)) (now (work .exit)) (updatedSaid r) ⌝ }
+    ensures { λ r. ⌜ Updates (inputOf (lent owners priorities starts targets) (lent owners2 priorities2 starts2 targets2) (claimed «old_winners» «old_moves»)) (given winners moves work) (left winners moves work) (updatedSaid r) ⌝ }
 {
     let tested = test_input(
         owners,
@@ -178,7 +182,7 @@ pub fn update(
         moves,
         work,
     );
-    if let Tables::Refused(r) = tested {
+    if let Tested::Refused(r) = tested {
         return Updated::Refused(r);
     }
     amend(

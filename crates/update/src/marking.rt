@@ -5,9 +5,10 @@ use reach::closure::close;
 use reach::closure::seed;
 ghost use Prim.Native.Nat.{_<_};
 ghost use lib.ListN.{length};
-ghost use Rattle.game.specs.Tables.{gameOf};
-ghost use Rattle.update.specs.Amended.{Differs};
-ghost use Rattle.update.specs.Marking.{Seedable, Seeding, Copyable, Copied, Markable, Marked};
+ghost use Rattle.game.specs.promise.Tables.{gameOf};
+ghost use Rattle.game.specs.promise.Lent.{asked, lent};
+ghost use Rattle.update.specs.promise.Amended.{Differs};
+ghost use Rattle.update.specs.parts.Marking.{DifferingSeedable, Seeding, Copyable, Copied, Findable, FoundReached};
 
 // Seeds every differing vertex and returns their number.
 fn seed_differing(
@@ -21,8 +22,8 @@ fn seed_differing(
     targets2: &[u16],
     work: &mut [u16],
 ) -> usize
-    requires { ⌜ Seedable (now owners) (now priorities) (now starts) (now targets) (now owners2) (now priorities2) (now starts2) (now targets2) (now work) ⌝ }
-    ensures { λ r. ⌜ Seeding (Differs (gameOf (now (owners .entry)) (now (priorities .entry)) (now (starts .entry)) (now (targets .entry))) (gameOf (now (owners2 .entry)) (now (priorities2 .entry)) (now (starts2 .entry)) (now (targets2 .entry)))) (length (now (owners2 .entry))) (now (work .entry)) (now (work .exit)) r (length (now (owners2 .entry))) ⌝ }
+    requires { ⌜ DifferingSeedable (asked owners priorities starts targets) (asked owners2 priorities2 starts2 targets2) (now work) ⌝ }
+    ensures { λ r. ⌜ Seeding (Differs (gameOf (lent owners priorities starts targets)) (gameOf (lent owners2 priorities2 starts2 targets2))) (length (now (owners2 .entry))) (now (work .entry)) (now (work .exit)) r (length (now (owners2 .entry))) ⌝ }
 {
     let n = owners2.len();
     let mut tail: usize = 0;
@@ -46,20 +47,20 @@ fn seed_differing(
     tail
 }
 
-// The closure's marks of n vertices as bytes.
-fn copy_marks(n: usize, work: &[u16], marks: &mut [u8])
-    requires { ⌜ Copyable n (now marks) (now work) ⌝ }
-    ensures { λ _. ⌜ Copied n (now (work .entry)) (now (marks .exit)) n ⌝ }
+// The closure's reached of n vertices as bytes.
+fn copy_reached(n: usize, work: &[u16], reached: &mut [u8])
+    requires { ⌜ Copyable n (now reached) (now work) ⌝ }
+    ensures { λ _. ⌜ Copied n (now (work .entry)) (now (reached .exit)) n ⌝ }
 {
     let mut v = 0;
     while v < n {
-        marks[v] = work[n + v] as u8;
+        reached[v] = work[n + v] as u8;
         v += 1;
     }
 }
 
 // Marks with 1 every vertex that reaches a differing one, with 0 all others, and returns the number of the former.
-pub fn mark_reaching(
+pub fn find_reached(
     owners: &[u8],
     priorities: &[u8],
     starts: &[u16],
@@ -72,11 +73,11 @@ pub fn mark_reaching(
     nexts: &[u16],
     sources: &[u16],
     choice: &[u16],
-    marks: &mut [u8],
+    reached: &mut [u8],
     work: &mut [u16],
 ) -> usize
-    requires { ⌜ Markable (now owners) (now priorities) (now starts) (now targets) (now owners2) (now priorities2) (now starts2) (now targets2) (now heads) (now nexts) (now sources) (now marks) (now choice) (now work) ⌝ }
-    ensures { λ r. ⌜ Marked (now (owners .entry)) (now (priorities .entry)) (now (starts .entry)) (now (targets .entry)) (now (owners2 .entry)) (now (priorities2 .entry)) (now (starts2 .entry)) (now (targets2 .entry)) (now (work .entry)) (now (marks .exit)) (now (work .exit)) r ⌝ }
+    requires { ⌜ Findable (asked owners priorities starts targets) (asked owners2 priorities2 starts2 targets2) (now heads) (now nexts) (now sources) (now reached) (now choice) (now work) ⌝ }
+    ensures { λ r. ⌜ FoundReached (lent owners priorities starts targets) (lent owners2 priorities2 starts2 targets2) (now (work .entry)) (now (reached .exit)) (now (work .exit)) r ⌝ }
 {
     let n = owners2.len();
     let seeds = seed_differing(
@@ -91,7 +92,7 @@ pub fn mark_reaching(
         work,
     );
     let count = close(n, targets2, heads, nexts, sources, 0, choice, work, seeds);
-    copy_marks(n, work, marks);
+    copy_reached(n, work, reached);
     fill(work, 0);
     count
 }

@@ -1,67 +1,37 @@
-// The update's tests before the checker's: both games' tables, their sizes, the lengths of the five lent buffers.
-use game::tables::Tables;
+// The update's tests before the checker's: both games' tables, their sizes, the lengths of the five lent lists.
+use game::buffers::compare;
+use game::buffers::lengths;
 use game::tables::test_tables;
 use refusal::Found;
 use refusal::Kind;
 use refusal::Refusal;
+use refusal::Tested;
+use refusal::or;
 ghost use mathlib.Core.Path.{_≡_};
-ghost use Prim.Native.Nat.{_+_, _<_, _≤_};
-ghost use Rattle.refusal.specs.Number.{numberOf};
-ghost use Rattle.refusal.specs.Found.{Finds};
-ghost use Rattle.game.specs.Answer.{tablesSaid};
-ghost use Rattle.update.specs.Updating.{Fault8};
-ghost use Rattle.update.specs.Refusing.{inputOf, TestedBy};
+ghost use Rattle.refusal.specs.promise.Row.{Gives};
+ghost use Rattle.refusal.specs.parts.Found.{Finds, testedSaid};
+ghost use Rattle.refusal.specs.declared.TableFault.{TableFault};
+ghost use Rattle.game.specs.promise.Lent.{lent, claimed, given};
+ghost use Rattle.update.specs.promise.Updating.{Fault9, inputOf, testRows};
 
-// 21 to 27 for 1 to 7: the same fault in the second game.
+// The same fault in the second game.
 fn second(kind: Kind) -> Kind
-    ensures { λ r. ⌜ (numberOf kind < 8 → numberOf r ≡ 20 + numberOf kind) ⌝ }
+    ensures { λ r. ⌜ ((f : TableFault) → kind ≡ Kind.Game f → r ≡ Kind.Second f) ⌝ }
 {
-    match kind {
-        Kind::Sizes => Kind::SecondSizes,
-        Kind::Owner => Kind::SecondOwner,
-        Kind::Priority => Kind::SecondPriority,
-        Kind::Start => Kind::SecondStart,
-        Kind::Stuck => Kind::SecondStuck,
-        Kind::Target => Kind::SecondTarget,
-        Kind::Order => Kind::SecondOrder,
-        _ => kind,
+    if let Kind::Game(fault) = kind {
+        return Kind::Second(fault);
     }
+    kind
 }
 
-// 8: a buffer that is not of its fixed length, of n vertices.
-fn lent_lengths(
-    n: usize,
-    old_winners: usize,
-    old_moves: usize,
-    winners: usize,
-    moves: usize,
-    work: usize,
-) -> Found
-    requires { ⌜ n ≤ 2048 ⌝ }
-    ensures { λ r. ⌜ Finds (Fault8 n «old_winners» «old_moves» winners moves work) r ⌝ }
+// 9: the games differ in their numbers of vertices.
+fn same_size(n: usize, m: usize) -> Found
+    ensures { λ r. ⌜ Finds (Fault9 n m) r ⌝ }
 {
-    if old_winners != n {
-        return Found::At(0);
-    }
-    if old_moves != n {
-        return Found::At(0);
-    }
-    if winners != n {
-        return Found::At(0);
-    }
-    if moves != n {
-        return Found::At(0);
-    }
-    if work != 4 * n {
+    if n != m {
         return Found::At(0);
     }
     Found::Nowhere
-}
-
-fn refused(kind: Kind, place: usize) -> Tables
-    ensures { λ r. ⌜ r ≡ Tables.Refused (record { kind = kind; place = place }) ⌝ }
-{
-    Tables::Refused(Refusal { kind, place })
 }
 
 // The first of 1 to 7, 21 to 27, 9 and 8 that applies, or that none does.
@@ -79,32 +49,26 @@ pub fn test_input(
     winners: &[u8],
     moves: &[u16],
     work: &[u16],
-) -> Tables
-    ensures { λ r. ⌜ TestedBy (inputOf (now (owners .entry)) (now (priorities .entry)) (now (starts .entry)) (now (targets .entry)) (now (owners2 .entry)) (now (priorities2 .entry)) (now (starts2 .entry)) (now (targets2 .entry)) (now («old_winners» .entry)) (now («old_moves» .entry)) (now (winners .entry)) (now (moves .entry)) (now (work .entry))) (tablesSaid r) ⌝ }
+) -> Tested
+    ensures { λ r. ⌜ Gives (testRows (inputOf (lent owners priorities starts targets) (lent owners2 priorities2 starts2 targets2) (claimed «old_winners» «old_moves»)) (given winners moves work)) (testedSaid r) ⌝ }
 {
     let n = owners.len();
     let first = test_tables(owners, priorities, starts, targets);
-    if let Tables::Refused(r) = first {
-        return Tables::Refused(r);
+    if let Tested::Refused(r) = first {
+        return Tested::Refused(r);
     }
     let amended = test_tables(owners2, priorities2, starts2, targets2);
-    if let Tables::Refused(r) = amended {
+    if let Tested::Refused(r) = amended {
         let kind = r.kind;
-        return refused(second(kind), r.place);
+        let place = r.place;
+        return Tested::Refused(Refusal {
+            kind: second(kind),
+            place,
+        });
     }
-    if owners2.len() != n {
-        return refused(Kind::Vertices, 0);
-    }
-    let lent = lent_lengths(
-        n,
-        old_winners.len(),
-        old_moves.len(),
-        winners.len(),
-        moves.len(),
-        work.len(),
-    );
-    if let Found::At(p) = lent {
-        return refused(Kind::Buffer, p);
-    }
-    Tables::Passed
+    let sizes = same_size(n, owners2.len());
+    let nine = or(Tested::Passed, sizes, Kind::Vertices);
+    let lent = lengths(n, winners.len(), moves.len(), work.len());
+    let moved = compare(lent, old_moves.len(), n);
+    or(nine, compare(moved, old_winners.len(), n), Kind::Buffer)
 }

@@ -4,13 +4,14 @@ use mathlib.Core.Path.{_≡_, refl, sym, ap, _∙_}
 use mathlib.Core.Logic.{_≢_, _↔_, Dec·not-not}
 use mathlib.Core.List.{List, _∷_}
 use native.Mathlib.Decide.{ℕ-discrete}
-use Rattle.player.specs.Player.{parityOf}
-use Rattle.refusal.specs.Row.{NoPlace}
-use Rattle.game.specs.Game.{Game}
-use Rattle.winning.specs.Walk.{follow}
-use Rattle.winning.specs.Cycle.{Cycle, highest}
-use Rattle.winning.specs.Wins.{By}
-use Rattle.winning.specs.Answer.{Recorded, Fault11, Fault12, own, other, Fault13, Fault14, Right, Accepted}
+use Rattle.player.specs.promise.Player.{parityOf}
+use Rattle.refusal.specs.promise.Row.{NoPlace}
+use Rattle.game.specs.promise.Game.{Game}
+use Rattle.winning.proofs.Walks.{follow}
+use Rattle.winning.specs.promise.Cycle.{Cycle, highest}
+use Rattle.winning.specs.promise.Wins.{By}
+use Rattle.winning.specs.promise.Faults.{Recorded, Fault11, Fault12, own, other, Fault13, Fault14, Accepted}
+use Rattle.winning.specs.promise.Answer.{Right}
 use Rattle.winning.proofs.Cycles.{map-cycle, cycle-step, top-of}
 use Rattle.winning.proofs.Backed.{Backed, backed, recorded-keeps, by-recorded, recorded-by}
 

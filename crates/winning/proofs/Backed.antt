@@ -3,11 +3,12 @@ use Prim.Native.Nat.{ℕ, _<_}
 use mathlib.Core.Path.{_≡_, sym, subst, _∙_}
 use mathlib.Core.Logic.{_≢_, Dec·and, Dec·not-not}
 use native.Mathlib.Decide.{ℕ-discrete, decLt}
-use Rattle.player.specs.Player.{IsPlayer}
-use Rattle.refusal.specs.Row.{NoPlace}
-use Rattle.game.specs.Game.{Game, Edge}
-use Rattle.winning.specs.Wins.{By}
-use Rattle.winning.specs.Answer.{noMove, Recorded, Fault11, Fault12, own, other, Fault13}
+use Rattle.player.specs.promise.Player.{IsPlayer}
+use Rattle.refusal.specs.promise.Row.{NoPlace}
+use Rattle.game.specs.promise.Game.{Game, Edge}
+use Rattle.winning.specs.promise.Wins.{By}
+use Rattle.winning.specs.promise.Answer.{noMove}
+use Rattle.winning.specs.promise.Faults.{Recorded, Fault11, Fault12, own, other, Fault13}
 use Rattle.winning.proofs.Edges.{decide-edge}
 
 module _ (g : Game) (mark move : ℕ → ℕ) where

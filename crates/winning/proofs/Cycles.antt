@@ -1,12 +1,14 @@
--- A cycle and its highest vertex: the list of 01 against a step and a walk back among priorities that are no higher.
+-- A cycle and its highest vertex: its list against a step and a walk back among priorities that are no higher.
 use Prim.Native.Nat.{ℕ, _≤_}
 use mathlib.Core.Path.{_≡_, subst}
 use mathlib.Core.List.{List, [], _∷_}
 use native.Mathlib.Decide.{decLe}
 use native.Mathlib.Omega.{arith}
-use Rattle.game.specs.Game.{Game}
-use Rattle.winning.specs.Walk.{Walk, stay, step, join, map-walk}
-use Rattle.winning.specs.Cycle.{Through, Cycle, highest, Low}
+use Rattle.game.specs.promise.Game.{Game}
+use Rattle.winning.specs.promise.Walk.{Walk, stay, step}
+use Rattle.winning.proofs.Walks.{join, map-walk}
+use Rattle.winning.specs.promise.Cycle.{Through, Cycle, highest}
+use Rattle.winning.specs.parts.Low.{Low}
 
 -- steps through a list are steps of another relation if each step from a vertex with P is one and keeps P
 map-through :

@@ -6,8 +6,8 @@ use mathlib.Core.List.{List, [], _∷_}
 use lib.ListN.{length, getD}
 use native.Mathlib.Nat.{not-suc-le-zero, le-of-suc-le-suc, zero-lt-suc}
 use native.Mathlib.Omega.{arith}
-use Rattle.game.specs.Game.{Game, Listed, Edge}
-use Rattle.winning.specs.Verdict.{isListed, isEdge}
+use Rattle.game.specs.promise.Game.{Game, Listed, Edge}
+use Rattle.winning.specs.parts.Verdict.{isListed, isEdge}
 use Rattle.winning.proofs.Reflect.{Tests, fails, tests-dec, tests-map, tests-and, tests-or, tests-eq, tests-lt}
 
 -- what is listed is the first or listed after it

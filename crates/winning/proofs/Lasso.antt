@@ -3,8 +3,8 @@ use Prim.Native.Nat.{ℕ, zero, suc, _<_}
 use mathlib.Core.Path.{_≡_, refl, sym, subst, _∙_}
 use mathlib.Core.List.{List, [], _∷_}
 use native.Mathlib.Nat.{le-of-suc-le-suc, not-suc-le-zero}
-use Rattle.winning.specs.Walk.{Walk, stay, step}
-use Rattle.winning.specs.Cycle.{Through, Cycle}
+use Rattle.winning.specs.promise.Walk.{Walk, stay, step}
+use Rattle.winning.specs.promise.Cycle.{Through, Cycle}
 use Rattle.winning.proofs.Pigeonhole.{Twice, pigeonhole}
 
 -- where i steps from v lead

@@ -1,3 +1,4 @@
+pub mod Walks
 pub mod Reflect
 pub mod Reachable
 pub mod Cycles
@@ -9,5 +10,6 @@ pub mod Search
 pub mod Pigeonhole
 pub mod Lasso
 pub mod NobodyTwice
+pub mod Solutions
 pub mod Rows
 pub mod Verdict

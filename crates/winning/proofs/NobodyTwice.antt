@@ -6,12 +6,13 @@ use mathlib.Core.Logic.{_≢_, ite}
 use mathlib.Core.List.{_∷_}
 use native.Mathlib.Decide.{ℕ-discrete}
 use native.Mathlib.Omega.{arith}
-use Rattle.player.specs.Player.{IsPlayer, opponentOf, parityOf, opponent-other}
-use Rattle.game.specs.Game.{Game, Sound, Moving}
-use Rattle.winning.specs.Walk.{map-walk}
-use Rattle.winning.specs.Cycle.{highest}
-use Rattle.winning.specs.Wins.{By, Wins}
-use Rattle.winning.specs.Answer.{Accepted}
+use Rattle.player.specs.promise.Player.{IsPlayer, opponentOf, parityOf}
+use Rattle.player.proofs.Players.{opponent-other}
+use Rattle.game.specs.promise.Game.{Game, Sound, Moving}
+use Rattle.winning.proofs.Walks.{map-walk}
+use Rattle.winning.specs.promise.Cycle.{highest}
+use Rattle.winning.specs.promise.Wins.{By, Wins}
+use Rattle.winning.specs.promise.Faults.{Accepted}
 use Rattle.winning.proofs.Cycles.{map-cycle}
 use Rattle.winning.proofs.Lasso.{Lasso, lasso}
 use Rattle.winning.proofs.Accepted.{accepted-backed}

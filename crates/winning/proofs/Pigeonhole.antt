@@ -7,10 +7,10 @@ use lib.Dec.{eqb}
 use native.Mathlib.Nat.{not-suc-le-zero}
 use native.Mathlib.Decide.{ℕ-discrete}
 use native.Mathlib.Omega.{arith}
-use Rattle.refusal.specs.Found.{Finds}
+use Rattle.refusal.specs.parts.Found.{Finds}
 use Rattle.refusal.specs.declared.Found.{Found}
 use Rattle.refusal.specs.declared.Found.the-variants.{At, Nowhere}
-use Rattle.winning.specs.Verdict.{lowest}
+use Rattle.winning.specs.parts.Verdict.{lowest}
 use Rattle.winning.proofs.Reflect.{tests-eq}
 use Rattle.winning.proofs.Search.{Below, finds-lowest}
 

@@ -6,8 +6,8 @@ use mathlib.Core.Logic.{_⊎_, inl, inr, ⊎-elim}
 use native.Mathlib.Nat.{eq-or-lt-of-le, le-of-suc-le-suc, lt-suc-self, not-suc-le-zero}
 use native.Mathlib.Omega.{arith}
 use lib.Dec.{eqb}
-use Rattle.winning.specs.Walk.{Walk, stay, step}
-use Rattle.winning.specs.Verdict.{via}
+use Rattle.winning.specs.promise.Walk.{Walk, stay, step}
+use Rattle.winning.specs.parts.Verdict.{via}
 use Rattle.winning.proofs.Reflect.{Tests, tests-map, tests-and, tests-or, tests-eq}
 
 -- a walk of one step or more whose vertices strictly in between are below k

@@ -3,11 +3,11 @@ use Prim.Native.Nat.{ℕ}
 use mathlib.Core.Path.{_≡_, sym}
 use mathlib.Core.Logic.{inl, inr}
 use mathlib.Core.List.{List, [], _∷_}
-use Rattle.refusal.specs.Row.{Row, Said, success, refused, Gives}
-use Rattle.refusal.specs.Found.{Finds}
+use Rattle.refusal.specs.promise.Row.{Row, Said, success, refused, Gives}
+use Rattle.refusal.specs.parts.Found.{Finds}
 use Rattle.refusal.specs.declared.Found.{Found}
 use Rattle.refusal.specs.declared.Found.the-variants.{At, Nowhere}
-use Rattle.winning.specs.Verdict.{Test, lowest, orSaid, saidBy}
+use Rattle.winning.specs.parts.Verdict.{Test, lowest, orSaid, saidBy}
 
 -- each test finds the places of the row that stands where it stands
 pub data Matched (n : ℕ) : List Row → List Test → Type 1 where

@@ -5,10 +5,10 @@ use mathlib.Core.Logic.{⊎-elim}
 use mathlib.Core.Bool.{Bool}
 use native.Mathlib.Nat.{not-suc-le-zero, eq-or-lt-of-le, le-of-suc-le-suc, lt-suc-self}
 use native.Mathlib.Omega.{arith}
-use Rattle.refusal.specs.Found.{Finds}
+use Rattle.refusal.specs.parts.Found.{Finds}
 use Rattle.refusal.specs.declared.Found.{Found}
 use Rattle.refusal.specs.declared.Found.the-variants.{At, Nowhere}
-use Rattle.winning.specs.Verdict.{lowest, orAt, isAt}
+use Rattle.winning.specs.parts.Verdict.{lowest, orAt, isAt}
 use Rattle.winning.proofs.Reflect.{Tests, holds, fails}
 
 -- P at a number below n

@@ -3,13 +3,14 @@ use Prim.Native.Nat.{ℕ, _<_}
 use mathlib.Core.Path.{_≡_, refl}
 use mathlib.Core.Logic.{_⊎_, inl, inr, _≢_}
 use native.Mathlib.Nat.{le-refl}
-use Rattle.player.specs.Player.{IsPlayer, parityOf}
-use Rattle.refusal.specs.Row.{Gives}
-use Rattle.refusal.specs.Found.{Finds}
-use Rattle.game.specs.Game.{Game, Edge}
-use Rattle.winning.specs.Cycle.{Low}
-use Rattle.winning.specs.Answer.{noMove, Recorded, Fault11, Fault12, own, other, Fault13, Fault14, answerRows}
-use Rattle.winning.specs.Verdict.{lowest, isOwn, isRecorded, isRecordedBelow, test11, test12, test13, test14, answerTests, verdictOf}
+use Rattle.player.specs.promise.Player.{IsPlayer, parityOf}
+use Rattle.refusal.specs.promise.Row.{Gives}
+use Rattle.refusal.specs.parts.Found.{Finds}
+use Rattle.game.specs.promise.Game.{Game, Edge}
+use Rattle.winning.specs.parts.Low.{Low}
+use Rattle.winning.specs.promise.Answer.{noMove}
+use Rattle.winning.specs.promise.Faults.{Recorded, Fault11, Fault12, own, other, Fault13, Fault14, answerRows}
+use Rattle.winning.specs.parts.Verdict.{lowest, isOwn, isRecorded, isRecordedBelow, test11, test12, test13, test14, answerTests, verdictOf}
 use Rattle.winning.proofs.Reflect.{Tests, tests-map, tests-not, tests-and, tests-or, tests-implies, tests-eq, tests-le, tests-lt}
 use Rattle.winning.proofs.Edges.{tests-edge}
 use Rattle.winning.proofs.Reachable.{Via, via-tests, via-step, step-via}

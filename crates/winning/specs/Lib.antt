@@ -1,5 +1,2 @@
-pub mod Walk
-pub mod Cycle
-pub mod Wins
-pub mod Answer
-pub mod Verdict
+pub mod promise
+pub mod parts

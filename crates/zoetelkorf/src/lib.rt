@@ -9,8 +9,10 @@ use solver::Solved;
 use solver::solve;
 use update::Updated;
 use update::update;
-ghost use Rattle.update.specs.Refusing.{inputOf};
-ghost use Rattle.zoetelkorf.specs.Calls.{Gave, ChecksBy, SolvesBy, UpdatesBy, ReadsBy};
+ghost use Rattle.game.specs.promise.Lent.{lent, written, claimed, given, left};
+ghost use Rattle.update.specs.promise.Updating.{inputOf};
+ghost use Rattle.zoetelkorf.specs.promise.Calls.{ChecksBy, SolvesBy, UpdatesBy, ReadsBy};
+ghost use Rattle.zoetelkorf.specs.parts.Handing.{Gave};
 
 // A refusal's number, with its place as the value.
 fn refused(r: Refusal, value: &mut u64) -> u64
@@ -33,7 +35,7 @@ pub extern "C" fn zoetelkorf_check(
     work: &mut [u16],
     value: &mut u64,
 ) -> u64
-    ensures { λ n. ⌜ ChecksBy (now (owners .entry)) (now (priorities .entry)) (now (starts .entry)) (now (targets .entry)) (now (winners .entry)) (now (moves .entry)) (now (work .entry)) (now (work .exit)) n (now (value .exit)) ⌝ }
+    ensures { λ n. ⌜ ChecksBy (lent owners priorities starts targets) (claimed winners moves) (now (work .entry)) (now (work .exit)) n (now (value .exit)) ⌝ }
 {
     let verdict = check(owners, priorities, starts, targets, winners, moves, work);
     if let Verdict::Refused(r) = verdict {
@@ -54,7 +56,7 @@ pub extern "C" fn zoetelkorf_solve(
     work: &mut [u16],
     value: &mut u64,
 ) -> u64
-    ensures { λ n. ⌜ SolvesBy (now (owners .entry)) (now (priorities .entry)) (now (starts .entry)) (now (targets .entry)) (now (winners .entry)) (now (moves .entry)) (now (work .entry)) (now (winners .exit)) (now (moves .exit)) (now (work .exit)) n (now (value .exit)) ⌝ }
+    ensures { λ n. ⌜ SolvesBy (lent owners priorities starts targets) (given winners moves work) (left winners moves work) n (now (value .exit)) ⌝ }
 {
     let solved = solve(owners, priorities, starts, targets, winners, moves, work);
     if let Solved::Refused(r) = solved {
@@ -81,7 +83,7 @@ pub extern "C" fn zoetelkorf_update(
     work: &mut [u16],
     value: &mut u64,
 ) -> u64
-    ensures { λ n. ⌜ UpdatesBy (inputOf (now (owners .entry)) (now (priorities .entry)) (now (starts .entry)) (now (targets .entry)) (now (owners2 .entry)) (now (priorities2 .entry)) (now (starts2 .entry)) (now (targets2 .entry)) (now («old_winners» .entry)) (now («old_moves» .entry)) (now (winners .entry)) (now (moves .entry)) (now (work .entry))) (now (winners .exit)) (now (moves .exit)) (now (work .exit)) n (now (value .exit)) ⌝ }
+    ensures { λ n. ⌜ UpdatesBy (inputOf (lent owners priorities starts targets) (lent owners2 priorities2 starts2 targets2) (claimed «old_winners» «old_moves»)) (given winners moves work) (left winners moves work) n (now (value .exit)) ⌝ }
 {
     let updated = update(
         owners,
@@ -116,7 +118,7 @@ pub extern "C" fn zoetelkorf_read(
     targets: &mut [u16],
     value: &mut u64,
 ) -> u64
-    ensures { λ n. ⌜ ReadsBy (now (file .entry)) (now (owners .entry)) (now (priorities .entry)) (now (starts .entry)) (now (targets .entry)) (now (owners .exit)) (now (priorities .exit)) (now (starts .exit)) (now (targets .exit)) n (now (value .exit)) ⌝ }
+    ensures { λ n. ⌜ ReadsBy (now (file .entry)) (lent owners priorities starts targets) (written owners priorities starts targets) n (now (value .exit)) ⌝ }
 {
     let taken = read(file, owners, priorities, starts, targets);
     match taken {

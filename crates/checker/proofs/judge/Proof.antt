@@ -1,62 +1,42 @@
--- `checker::judge` meets its contract. The rows 11 to 14 in turn: each that is passed applies nowhere, and the one that is given applies first.
+-- `checker::judge` meets its contract: each test joins its row to what was said so far; 14 is looked for only if none of 11 to 13 applies.
 -- Assumes nothing.
-use borrow.Author.Needs.{needs}
-use Rattle.checker.proofs.Verdicts.{judged-refused}
-use Rattle.winning.specs.Answer.{Fault11, Fault12, Fault13, Fault14}
-use Rattle.game.specs.Answer.{markOf, moveOf}
-use Rattle.game.specs.Tables.{gameOf}
-use Rattle.game.specs.Buffers.{Zeroed}
-use Rattle.game.proofs.Zeros.{zeroed-more}
-use Rattle.reach.proofs.Stores.{filled-zeroed}
-use Rattle.refusal.specs.Found.{found-at, found-nowhere}
-use Rattle.refusal.specs.Row.{NoPlace}
+use Prim.Native.Nat.{ℕ}
+use mathlib.Core.List.{[], _∷_}
+use mathlib.Core.Path.{_∙_}
 use denote.Ref.{now}
-use mathlib.Core.Logic.{inl, inr}
-use mathlib.Core.Path.{refl, _∙_}
+use Rattle.refusal.specs.promise.Row.{row}
+use Rattle.refusal.proofs.Rows.{Given, so-far, also, whatever, passed}
+use Rattle.game.specs.promise.Game.{Game}
+use Rattle.game.specs.promise.Tables.{gameOf}
+use Rattle.game.specs.promise.Answer.{markOf, moveOf}
+use Rattle.game.specs.promise.Lent.{asked, Zeroed}
+use Rattle.game.proofs.Zeros.{zeroed-more}
+use Rattle.winning.specs.promise.Faults.{Fault11, Fault12, Fault13, Fault14}
+use Rattle.reach.proofs.Stores.{filled-zeroed}
+use Rattle.checker.proofs.Verdicts.{judged}
+use borrow.Author.Needs.{needs}
 use Rattle.checker.proofs.judge.Statement.{statement}
 use Rattle.checker.proofs.judge.Tie as tie
 
--- the way back from each test to the one before it, to the filling of the work space, and to the entry
-abbrev at-fill : tie.After-strange-mark → tie.After-fill
-at-fill c = c .before .before .before
+-- the game, its marks and moves, and what was said of 11 to 13
+abbrev g : tie.After-or3 → Game
+g c = let a = c .before .before .before .before .before .before .before .before .before .before .before .before .before .before .before .before .before .args in gameOf (asked (a .owners) (a .priorities) (a .starts) (a .targets))
 
-abbrev start : tie.After-strange-mark → tie.Start
-start c = at-fill c .before .before .before .before .before .before .before .before .before
+abbrev mark : tie.After-or3 → ℕ → ℕ
+mark c = markOf (now (c .before .before .before .before .before .before .before .before .before .before .before .before .before .before .before .before .before .args .winners))
 
-abbrev test1 : tie.After-enum-told → tie.After-strange-mark
-test1 c = c .before .before
+abbrev move : tie.After-or3 → ℕ → ℕ
+move c = moveOf (now (c .before .before .before .before .before .before .before .before .before .before .before .before .before .before .before .before .before .args .moves))
 
-abbrev told1 : tie.After-enum-told2 → tie.After-enum-told
-told1 c = c .before .before .before
-
-abbrev told2 : tie.After-enum-told3 → tie.After-enum-told2
-told2 c = c .before .before .before
-
-abbrev told3 : tie.After-lost-cycle → tie.After-enum-told3
-told3 c = c .before .before
-
-abbrev start1 : tie.After-enum-told → tie.Start
-start1 c = start (test1 c)
-
-abbrev start2 : tie.After-enum-told2 → tie.Start
-start2 c = start1 (told1 c)
-
-abbrev start3 : tie.After-enum-told3 → tie.Start
-start3 c = start2 (told2 c)
-
--- what each row that is passed has shown
-none1 : (c : tie.After-enum-told) → NoPlace (Fault11 (gameOf (now (start1 c .args .owners)) (now (start1 c .args .priorities)) (now (start1 c .args .starts)) (now (start1 c .args .targets))) (markOf (now (start1 c .args .winners))) (moveOf (now (start1 c .args .moves))))
-none1 c = found-nowhere (Fault11 _ _ _) (c .enum-told .given .1) (c .before .before .strange-mark .ensures)
-
-none2 : (c : tie.After-enum-told2) → NoPlace (Fault12 (gameOf (now (start2 c .args .owners)) (now (start2 c .args .priorities)) (now (start2 c .args .starts)) (now (start2 c .args .targets))) (markOf (now (start2 c .args .winners))) (moveOf (now (start2 c .args .moves))))
-none2 c = found-nowhere (Fault12 _ _ _) (c .enum-told2 .given .1) (c .before .before .wrong-move .ensures)
-
-none3 : (c : tie.After-enum-told3) → NoPlace (Fault13 (gameOf (now (start3 c .args .owners)) (now (start3 c .args .priorities)) (now (start3 c .args .starts)) (now (start3 c .args .targets))) (markOf (now (start3 c .args .winners))) (moveOf (now (start3 c .args .moves))))
-none3 c = found-nowhere (Fault13 _ _ _) (c .enum-told3 .given .1) (c .before .before .open-escape .ensures)
+said3 : (c : tie.After-or3) → Given (row 11 (Fault11 (g c) (mark c) (move c)) ∷ row 12 (Fault12 (g c) (mark c) (move c)) ∷ row 13 (Fault13 (g c) (mark c) (move c)) ∷ []) (c .or3 .result)
+said3 c =
+    also (Fault13 _ _ _) (c .or3 .ensures)
+    (also (Fault12 _ _ _) (c .before .before .or2 .ensures)
+    (also (Fault11 _ _ _) (c .before .before .before .before .or .ensures) so-far (c .before .before .before .before .before .strange-mark .ensures)) (c .before .before .before .wrong-move .ensures)) (c .before .open-escape .ensures)
 
 -- the work space is zero from the start
-zeroed : (c : tie.After-strange-mark) → Zeroed (now (start c .args .work)) (at-fill c .fill .last .0)
-zeroed c = filled-zeroed (at-fill c .fill .ensures .0) (at-fill c .fill .ensures .1)
+zeroed : (c : tie.After-fill) → Zeroed (now (c .before .before .before .before .before .before .before .before .before .args .work)) (c .fill .last .0)
+zeroed c = filled-zeroed (c .fill .ensures .0) (c .fill .ensures .1)
 
 fill-requires : tie.Need-fill-requires
 fill-requires c κs = search needs
@@ -64,113 +44,54 @@ fill-requires c κs = search needs
 strange-mark-requires : tie.Need-strange-mark-requires
 strange-mark-requires c κs = c .before .before .before .before .before .before .before .before .before .before .before .pre .answered
 
-enum-known-strange : tie.Need-enum-known-strange
-enum-known-strange c = search needs
+or-requires : tie.Need-or-requires
+or-requires c κs = search needs
 
-refused-requires : tie.Need-refused-requires
-refused-requires c κs = search needs
+wrong-move-requires : tie.Need-wrong-move-requires
+wrong-move-requires c κs = c .before .before .before .before .before .before .before .before .before .before .before .before .before .pre .answered
+
+or-requires-2 : tie.Need-or-requires-2
+or-requires-2 c κs = search needs
+
+open-escape-requires : tie.Need-open-escape-requires
+open-escape-requires c κs = c .before .before .before .before .before .before .before .before .before .before .before .before .before .before .before .pre .answered
+
+or-requires-3 : tie.Need-or-requires-3
+or-requires-3 c κs = search needs
+
+enum-known-three : tie.Need-enum-known-three
+enum-known-three c = search needs
 
 same-length : tie.Need-same-length
 same-length c = search needs
 
 returns : tie.Need-returns
-returns c =
-    let s = c .before .before .before .before in
-    judged-refused (c .refused .ensures) (inl (refl, found-at (Fault11 _ _ _) (c .before .before .strange .given .1) (s .strange-mark .ensures))) (zeroed s)
+returns c = record { gives = whatever (row 14 (Fault14 _ _ _) ∷ []) (c .before .three .given .1) (said3 (c .before .before .before)); zeroed = zeroed (c .before .before .before .before .before .before .before .before .before .before .before) }
 
 enum-told : tie.Need-enum-told
 enum-told c = search needs
 
-wrong-move-requires : tie.Need-wrong-move-requires
-wrong-move-requires c κs = start1 c .pre .answered
-
-enum-known-wrong : tie.Need-enum-known-wrong
-enum-known-wrong c = search needs
-
-refused-requires-2 : tie.Need-refused-requires-2
-refused-requires-2 c κs = search needs
-
-same-length-2 : tie.Need-same-length-2
-same-length-2 c = search needs
-
-returns-2 : tie.Need-returns-2
-returns-2 c =
-    let s = c .before .before .before .before in
-    let a = s .before in
-    judged-refused (c .refused2 .ensures) (inr (none1 a, inl (refl, found-at (Fault12 _ _ _) (c .before .before .wrong .given .1) (s .wrong-move .ensures)))) (zeroed (test1 a))
-
-enum-told-2 : tie.Need-enum-told-2
-enum-told-2 c = search needs
-
-open-escape-requires : tie.Need-open-escape-requires
-open-escape-requires c κs = start2 c .pre .answered
-
-enum-known-escape : tie.Need-enum-known-escape
-enum-known-escape c = search needs
-
-refused-requires-3 : tie.Need-refused-requires-3
-refused-requires-3 c κs = search needs
-
-same-length-3 : tie.Need-same-length-3
-same-length-3 c = search needs
-
-returns-3 : tie.Need-returns-3
-returns-3 c =
-    let s = c .before .before .before .before in
-    let b = s .before in
-    let a = told1 b in
-    judged-refused (c .refused3 .ensures) (inr (none1 a, inr (none2 b, inl (refl, found-at (Fault13 _ _ _) (c .before .before .escape .given .1) (s .open-escape .ensures))))) (zeroed (test1 a))
-
-enum-told-3 : tie.Need-enum-told-3
-enum-told-3 c = search needs
-
 lost-cycle-requires : tie.Need-lost-cycle-requires
-lost-cycle-requires c κs =
-    let d = c .before in
-    let b = told2 d in
-    let a = told1 b in
-    let f = at-fill (test1 a) in
+lost-cycle-requires c κs = let s = said3 (c .before .before .before) in
+    let none = passed (c .before .enum-told .given .1) s in
+    let f = c .before .before .before .before .before .before .before .before .before .before .before in
     record {
-      passed = record { answered = start1 a .pre .answered; no11 = none1 a; no12 = none2 b; no13 = none3 d };
-      work-long = f .fill .ensures .0 ∙ start1 a .pre .work-long;
+      passed = record { answered = c .before .before .before .before .before .before .before .before .before .before .before .before .before .before .before .before .before .before .before .before .pre .answered; no11 = none .0; no12 = none .1 .0; no13 = none .1 .1 .0 };
+      work-long = f .fill .ensures .0 ∙ c .before .before .before .before .before .before .before .before .before .before .before .before .before .before .before .before .before .before .before .before .pre .work-long;
       zero = f .fill .ensures .1;
     }
 
-enum-known-lost : tie.Need-enum-known-lost
-enum-known-lost c = search needs
+or-requires-4 : tie.Need-or-requires-4
+or-requires-4 c κs = search needs
 
-refused-requires-4 : tie.Need-refused-requires-4
-refused-requires-4 c κs = search needs
+given-requires : tie.Need-given-requires
+given-requires c κs = search needs
 
-same-length-4 : tie.Need-same-length-4
-same-length-4 c = search needs
+same-length-2 : tie.Need-same-length-2
+same-length-2 c = c .before .before .before .before .lost-cycle .ensures .1 .long ∙ c .before .before .before .before .before .before .before .before .before .before .before .before .before .before .before .before .fill .ensures .0
 
-returns-4 : tie.Need-returns-4
-returns-4 c =
-    let s = c .before .before .before .before .before .before in
-    let d = told3 s in
-    let b = told2 d in
-    let a = told1 b in
-    judged-refused (c .refused4 .ensures)
-    (inr (none1 a, inr (none2 b, inr (none3 d, inl (refl, found-at (Fault14 _ _ _) (c .before .before .lost .given .1) (s .lost-cycle .ensures .0))))))
-    (zeroed-more (zeroed (test1 a)) (s .lost-cycle .ensures .1))
-
-enum-told-4 : tie.Need-enum-told-4
-enum-told-4 c = search needs
-
-same-length-5 : tie.Need-same-length-5
-same-length-5 c = search needs
-
-returns-5 : tie.Need-returns-5
-returns-5 c =
-    let s = c .before .before .before .before in
-    let d = told3 s in
-    let b = told2 d in
-    let a = told1 b in
-    record {
-      gives = (none1 a, (none2 b, (none3 d, (found-nowhere (Fault14 _ _ _) (c .enum-told4 .given .1) (s .lost-cycle .ensures .0), tt))));
-      zeroed = zeroed-more (zeroed (test1 a)) (s .lost-cycle .ensures .1);
-    }
+returns-2 : tie.Need-returns-2
+returns-2 c = judged _ _ _ (c .given .ensures) (also (Fault14 _ _ _) (c .before .or4 .ensures) (said3 (c .before .before .before .before .before .before .before .before)) (c .before .before .before .before .lost-cycle .ensures .0)) (zeroed-more (zeroed (c .before .before .before .before .before .before .before .before .before .before .before .before .before .before .before .before)) (c .before .before .before .before .lost-cycle .ensures .1))
 
 pub judge-spec : {M : Type 1} → statement M
 judge-spec =
@@ -178,28 +99,17 @@ judge-spec =
     (tie.spec
     fill-requires
     strange-mark-requires
-    enum-known-strange
-    refused-requires
+    or-requires
+    wrong-move-requires
+    or-requires-2
+    open-escape-requires
+    or-requires-3
+    enum-known-three
     same-length
     returns
     enum-told
-    wrong-move-requires
-    enum-known-wrong
-    refused-requires-2
-    same-length-2
-    returns-2
-    enum-told-2
-    open-escape-requires
-    enum-known-escape
-    refused-requires-3
-    same-length-3
-    returns-3
-    enum-told-3
     lost-cycle-requires
-    enum-known-lost
-    refused-requires-4
-    same-length-4
-    returns-4
-    enum-told-4
-    same-length-5
-    returns-5)
+    or-requires-4
+    given-requires
+    same-length-2
+    returns-2)

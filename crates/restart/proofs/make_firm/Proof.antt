@@ -1,4 +1,4 @@
--- `restart::make_firm` meets its contract. The invariant, `Firming`: the unmarked vertices below v have a level above all priorities.
+-- `restart::make_firm` meets its contract. The invariant, `Firming`: the unreached vertices below v have a level above all priorities.
 -- Assumes nothing.
 use Prim.Native.Nat.{_-_}
 use mathlib.Core.Logic.{⊎-elim}

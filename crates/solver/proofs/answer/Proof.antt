@@ -21,7 +21,7 @@ slice-aggregate-predecessors-3 : tie.Need-slice-aggregate-predecessors-3
 slice-aggregate-predecessors-3 c = search needs
 
 predecessors-requires : tie.Need-predecessors-requires
-predecessors-requires c κs = buildable _ _ _ _ _ _ _ (c .before .before .before .before .before .before .before .before .before .before .pre .well-formed) refl refl refl
+predecessors-requires c κs = buildable _ _ _ _ (c .before .before .before .before .before .before .before .before .before .before .pre .well-formed) refl refl refl
 
 open-all-requires : tie.Need-open-all-requires
 open-all-requires c κs = search needs
@@ -38,7 +38,7 @@ slice-aggregate-settle-3 c = search needs
 settle-requires : tie.Need-settle-requires
 settle-requires c κs =
     let o = c .before .before .before .before .before .before .before .before .before .before in
-    settleable _ _ _ _ _ _ _ (start o .pre) (o .open-all .ensures) (o .before .before .before .before .before .before .predecessors .ensures)
+    settleable _ _ (start o .pre) (o .open-all .ensures) (o .before .before .before .before .before .before .predecessors .ensures)
 
 fill-requires : tie.Need-fill-requires
 fill-requires c κs = search needs
@@ -48,13 +48,13 @@ abbrev done : tie.Need-returns
 done c =
     let s = c .before .before .before .before .before .before .before .before .before .before in
     let o = s .before .before .before .before .before .before .before .before .before .before .before in
-    answered _ _ _ _ _ _ _ (start o .pre) (o .open-all .ensures) (s .settle .ensures) (c .before .before .fill .ensures .0) (c .before .before .fill .ensures .1)
+    answered _ _ (start o .pre) (o .open-all .ensures) (s .settle .ensures) (c .before .before .fill .ensures .0) (c .before .before .fill .ensures .1)
 
 same-length : tie.Need-same-length
-same-length c = done c .winners-kept
+same-length c = done c .winners-long
 
 same-length-2 : tie.Need-same-length-2
-same-length-2 c = done c .moves-kept
+same-length-2 c = done c .moves-long
 
 same-length-3 : tie.Need-same-length-3
 same-length-3 c = done c .zeroed .long

@@ -1,9 +1,21 @@
 -- `update::update` meets its contract: the tests before the checker's refuse, or what follows them gives the outcome (Outcomes).
 -- Assumes nothing.
+use Rattle.refusal.proofs.Rows.{tested-passed}
+use Rattle.game.specs.promise.Lent.{Lent, asked, claim, buffers}
+use Rattle.update.specs.promise.Updating.{Input, inputOf, testRows}
+use Rattle.update.proofs.Outcomes.{refused-early}
 use borrow.Author.Needs.{needs}
-use Rattle.update.proofs.Outcomes.{refused-early, passed-early}
 use Rattle.update.proofs.update.Statement.{statement}
 use Rattle.update.proofs.update.Tie as tie
+
+-- what is handed in and lent
+abbrev input : tie.Start → Input
+input c =
+    let a = c .args in
+    inputOf (asked (a .owners) (a .priorities) (a .starts) (a .targets)) (asked (a .owners2) (a .priorities2) (a .starts2) (a .targets2)) (claim (a .old-winners) (a .old-moves))
+
+abbrev lent : tie.Start → Lent
+lent c = let a = c .args in buffers (a .winners) (a .moves) (a .work)
 
 test-input-requires : tie.Need-test-input-requires
 test-input-requires c κs = search needs
@@ -21,13 +33,13 @@ same-length-3 : tie.Need-same-length-3
 same-length-3 c = search needs
 
 returns : tie.Need-returns
-returns c = refused-early _ (c .before .tested .given .1) (c .before .before .before .test-input .ensures)
+returns c = refused-early _ _ (c .before .tested .given .1) (c .before .before .before .test-input .ensures)
 
 enum-told : tie.Need-enum-told
 enum-told c = search needs
 
 amend-requires : tie.Need-amend-requires
-amend-requires c κs = passed-early _ (c .before .before .before .enum-told .given .1) (c .before .before .before .before .before .test-input .ensures)
+amend-requires c κs = tested-passed (testRows (input (c .before .before .before .before .before .before .before .before .before .before .before .before .before .before .before .before .before .before .before .before .before .before)) (lent (c .before .before .before .before .before .before .before .before .before .before .before .before .before .before .before .before .before .before .before .before .before .before))) (c .before .before .before .enum-told .given .1) (c .before .before .before .before .before .test-input .ensures)
 
 same-length-4 : tie.Need-same-length-4
 same-length-4 c = search needs

@@ -1,8 +1,7 @@
 -- `zoetelkorf::zoetelkorf_check` meets its contract. What `check` says, as a number and a value (Telling).
 -- Assumes nothing.
 use borrow.Author.Needs.{needs}
-use Rattle.checker.specs.Checking.{verdictSaid, Checks}
-use Rattle.checker.specs.Checking.{verdictSaid}
+use Rattle.checker.specs.promise.Checking.{verdictSaid, Checks}
 use Rattle.zoetelkorf.proofs.Telling.{told}
 use mathlib.Core.Path.{refl}
 use Rattle.zoetelkorf.proofs.zoetelkorf_check.Statement.{statement}
@@ -21,7 +20,7 @@ same-length : tie.Need-same-length
 same-length c = search needs
 
 returns : tie.Need-returns
-returns c = told _ verdictSaid (Checks _ _ _ _ _ _ _ _) (c .before .before .before .verdict .given .1) (c .before .before .before .before .before .before .before .check .ensures) (c .refused .ensures .number-is) (c .refused .ensures .value-is)
+returns c = told _ verdictSaid (Checks _ _ _ _) (c .before .before .before .verdict .given .1) (c .before .before .before .before .before .before .before .check .ensures) (c .refused .ensures .number-is) (c .refused .ensures .value-is)
 
 enum-told : tie.Need-enum-told
 enum-told c = search needs
@@ -30,7 +29,7 @@ same-length-2 : tie.Need-same-length-2
 same-length-2 c = search needs
 
 returns-2 : tie.Need-returns-2
-returns-2 c = told _ verdictSaid (Checks _ _ _ _ _ _ _ _) (c .enum-told .given .1) (c .before .before .before .before .check .ensures) refl refl
+returns-2 c = told _ verdictSaid (Checks _ _ _ _) (c .enum-told .given .1) (c .before .before .before .before .check .ensures) refl refl
 
 pub zoetelkorf-check-spec : {M : Type 1} → statement M
 zoetelkorf-check-spec =

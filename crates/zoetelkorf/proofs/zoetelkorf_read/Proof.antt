@@ -1,10 +1,9 @@
 -- `zoetelkorf::zoetelkorf_read` meets its contract. What `read` says, as a number and a value (Telling).
 -- Assumes nothing.
 use borrow.Author.Needs.{needs}
-use Rattle.zoetelkorf.proofs.Telling.{sizes-small}
-use Rattle.housefile.specs.Reading.{readSaid, Reads}
+use Rattle.zoetelkorf.proofs.Telling.{sizes-small, told}
+use Rattle.housefile.specs.promise.Reading.{readSaid, Reads}
 use native.Mathlib.Omega.{arith}
-use Rattle.zoetelkorf.proofs.Telling.{told}
 use mathlib.Core.Path.{refl}
 use Rattle.zoetelkorf.proofs.zoetelkorf_read.Statement.{statement}
 use Rattle.zoetelkorf.proofs.zoetelkorf_read.Tie as tie
@@ -22,10 +21,10 @@ enum-known-taken-2 : tie.Need-enum-known-taken-2
 enum-known-taken-2 c = search needs
 
 mul-value : tie.Need-mul-value
-mul-value c = omega (arith, sizes-small _ _ _ _ _ _ _ _ _ (λ k. omega (arith, c .before .before .before .before .before .before .before .before .before .before .before .before .before .before .before .before .before .before .before .before .shared-slice-known .given k)) (c .before .taken2 .given .1) (c .before .before .before .before .before .before .before .before .before .before .before .read .ensures))
+mul-value c = omega (arith, sizes-small _ _ _ (λ k. omega (arith, c .before .before .before .before .before .before .before .before .before .before .before .before .before .before .before .before .before .before .before .before .shared-slice-known .given k)) (c .before .taken2 .given .1) (c .before .before .before .before .before .before .before .before .before .before .before .read .ensures))
 
 add-value : tie.Need-add-value
-add-value c = omega (arith, sizes-small _ _ _ _ _ _ _ _ _ (λ k. omega (arith, c .before .before .before .before .before .before .before .before .before .before .before .before .before .before .before .before .before .before .before .before .shared-slice-known .given k)) (c .before .taken2 .given .1) (c .before .before .before .before .before .before .before .before .before .before .before .read .ensures))
+add-value c = omega (arith, sizes-small _ _ _ (λ k. omega (arith, c .before .before .before .before .before .before .before .before .before .before .before .before .before .before .before .before .before .before .before .before .shared-slice-known .given k)) (c .before .taken2 .given .1) (c .before .before .before .before .before .before .before .before .before .before .before .read .ensures))
 
 same-length : tie.Need-same-length
 same-length c = search needs
@@ -40,7 +39,7 @@ same-length-4 : tie.Need-same-length-4
 same-length-4 c = search needs
 
 returns : tie.Need-returns
-returns c = told _ readSaid (Reads _ _ _ _ _ _ _ _ _) (c .before .before .before .taken .given .1) (c .before .before .before .before .before .before .before .before .before .before .before .before .before .read .ensures) (c .refused .ensures .number-is) (c .refused .ensures .value-is)
+returns c = told _ readSaid (Reads _ _ _) (c .before .before .before .taken .given .1) (c .before .before .before .before .before .before .before .before .before .before .before .before .before .read .ensures) (c .refused .ensures .number-is) (c .refused .ensures .value-is)
 
 same-length-5 : tie.Need-same-length-5
 same-length-5 c = search needs
@@ -55,7 +54,7 @@ same-length-8 : tie.Need-same-length-8
 same-length-8 c = search needs
 
 returns-2 : tie.Need-returns-2
-returns-2 c = told _ readSaid (Reads _ _ _ _ _ _ _ _ _) (c .before .taken2 .given .1) (c .before .before .before .before .before .before .before .before .before .before .before .read .ensures) refl refl
+returns-2 c = told _ readSaid (Reads _ _ _) (c .before .taken2 .given .1) (c .before .before .before .before .before .before .before .before .before .before .before .read .ensures) refl refl
 
 pub zoetelkorf-read-spec : {M : Type 1} → statement M
 zoetelkorf-read-spec =

@@ -1,8 +1,7 @@
 -- `zoetelkorf::zoetelkorf_solve` meets its contract. What `solve` says, as a number and a value (Telling).
 -- Assumes nothing.
 use borrow.Author.Needs.{needs}
-use Rattle.solver.specs.Solving.{solvedSaid, Solves}
-use Rattle.solver.specs.Solving.{solvedSaid}
+use Rattle.solver.specs.promise.Solving.{solvedSaid, Solves}
 use Rattle.zoetelkorf.proofs.Telling.{told}
 use mathlib.Core.Path.{refl}
 use Rattle.zoetelkorf.proofs.zoetelkorf_solve.Statement.{statement}
@@ -27,7 +26,7 @@ same-length-3 : tie.Need-same-length-3
 same-length-3 c = search needs
 
 returns : tie.Need-returns
-returns c = told _ solvedSaid (Solves _ _ _ _ _ _ _ _ _ _) (c .before .before .before .solved .given .1) (c .before .before .before .before .before .before .before .before .before .before .before .solve .ensures) (c .refused .ensures .number-is) (c .refused .ensures .value-is)
+returns c = told _ solvedSaid (Solves _ _ _) (c .before .before .before .solved .given .1) (c .before .before .before .before .before .before .before .before .before .before .before .solve .ensures) (c .refused .ensures .number-is) (c .refused .ensures .value-is)
 
 enum-told : tie.Need-enum-told
 enum-told c = search needs
@@ -42,7 +41,7 @@ same-length-6 : tie.Need-same-length-6
 same-length-6 c = search needs
 
 returns-2 : tie.Need-returns-2
-returns-2 c = told _ solvedSaid (Solves _ _ _ _ _ _ _ _ _ _) (c .enum-told .given .1) (c .before .before .before .before .before .before .before .before .solve .ensures) refl refl
+returns-2 c = told _ solvedSaid (Solves _ _ _) (c .enum-told .given .1) (c .before .before .before .before .before .before .before .before .solve .ensures) refl refl
 
 pub zoetelkorf-solve-spec : {M : Type 1} → statement M
 zoetelkorf-solve-spec =

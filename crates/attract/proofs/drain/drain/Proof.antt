@@ -3,6 +3,7 @@
 use native.Mathlib.Omega.{arith}
 use Prim.Native.Nat.{_+_, _-_}
 use mathlib.Core.Path.{_≡_, sym, _∙_}
+use Rattle.game.specs.promise.Tables.{tablesOf}
 use Rattle.attract.proofs.Visits.{drawn-same, drawn-more}
 use Rattle.attract.proofs.Sweeps.{Going, drain-visitable, drained}
 use borrow.Author.Needs.{needs}
@@ -10,7 +11,7 @@ use Rattle.attract.proofs.drain.drain.Statement.{statement}
 use Rattle.attract.proofs.drain.drain.Tie as tie
 
 abbrev Inv-loop : tie.InvT-loop
-Inv-loop tail low budget owners priorities starts targets heads nexts sources firsts₀ lasts₀ waiting₀ levels₀ stack₀ winners₀ moves₀ work₀ pile₀ left₀ firsts lasts waiting levels stack winners moves work pile left = Going budget left (pile .tail) owners priorities starts targets heads nexts sources winners₀ moves₀ work₀ firsts lasts waiting levels stack winners moves work
+Inv-loop tail low budget owners priorities starts targets heads nexts sources firsts₀ lasts₀ waiting₀ levels₀ stack₀ winners₀ moves₀ work₀ pile₀ left₀ firsts lasts waiting levels stack winners moves work pile left = Going budget left (pile .tail) (tablesOf owners priorities starts targets) heads nexts sources winners₀ moves₀ work₀ firsts lasts waiting levels stack winners moves work
 
 abbrev μ-loop : tie.MeasureT-loop
 μ-loop tail low budget owners priorities starts targets heads nexts sources firsts₀ lasts₀ waiting₀ levels₀ stack₀ winners₀ moves₀ work₀ pile₀ left₀ firsts lasts waiting levels stack winners moves work pile left = left
@@ -72,7 +73,7 @@ sub-left : tie.Need-sub-left Inv-loop μ-loop
 sub-left c = search needs
 
 loop-less : tie.Need-loop-less Inv-loop μ-loop
-loop-less c = search needs
+loop-less c = let some = c .before .before .before .before .before .before .before .before .before .before .before .before .before .before .before .before .before .before .before .before .before .before .before .before .before .before .before .loop-test .taken in omega arith
 
 loop-again : tie.Need-loop-again Inv-loop μ-loop
 loop-again c = record { at-most = omega (arith, c .before .before .before .before .before .before .before .before .before .before .before .before .before .before .before .before .before .before .before .before .before .before .before .before .before .before .before .before .loop .inv .at-most); drawn = drawn-more (c .before .before .before .before .before .before .before .before .before .before .before .before .before .before .before .before .before .before .before .before .before .before .before .before .before .before .before .before .loop .inv .drawn) (c .before .before .before .before .before .before .before .before .before .before .before .before .before .before .before .before .visit .ensures) }

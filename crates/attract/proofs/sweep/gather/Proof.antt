@@ -2,7 +2,7 @@
 -- Assumes nothing.
 use Prim.Native.Nat.{_-_, _<_}
 use native.Mathlib.Omega.{arith}
-use Rattle.reach.specs.Lists.{nil}
+use Rattle.reach.specs.parts.Lists.{nil}
 use Rattle.attract.proofs.Gathers.{Gathering, gathering-none, gathering-vertex, gathering-lookable, gathering-link, gathering-more, gathering-all}
 use borrow.Author.Needs.{needs}
 use Rattle.attract.proofs.sweep.gather.Statement.{statement}

@@ -3,6 +3,7 @@
 use native.Mathlib.Omega.{arith}
 use Prim.Native.Nat.{_≤_}
 use mathlib.Core.Path.{sym, _∙_}
+use Rattle.game.specs.promise.Tables.{tablesOf}
 use Rattle.attract.proofs.Visits.{drawn-same}
 use Rattle.attract.proofs.Sweeps.{Going, sweep-gatherable, sweep-drainable, sweep-more}
 use borrow.Author.Needs.{needs}
@@ -10,7 +11,7 @@ use Rattle.attract.proofs.sweep.sweep.Statement.{statement}
 use Rattle.attract.proofs.sweep.sweep.Tie as tie
 
 abbrev Inv-loop : tie.InvT-loop
-Inv-loop top budget owners priorities starts targets heads nexts sources firsts₀ lasts₀ waiting₀ levels₀ stack₀ winners₀ moves₀ work₀ n left₀ high₀ p₀ firsts lasts waiting levels stack winners moves work left high p = (p ≤ 256) × Going budget left 0 owners priorities starts targets heads nexts sources winners₀ moves₀ work₀ firsts lasts waiting levels stack winners moves work
+Inv-loop top budget owners priorities starts targets heads nexts sources firsts₀ lasts₀ waiting₀ levels₀ stack₀ winners₀ moves₀ work₀ n left₀ high₀ p₀ firsts lasts waiting levels stack winners moves work left high p = (p ≤ 256) × Going budget left 0 (tablesOf owners priorities starts targets) heads nexts sources winners₀ moves₀ work₀ firsts lasts waiting levels stack winners moves work
 
 abbrev μ-loop : tie.MeasureT-loop
 μ-loop top budget owners priorities starts targets heads nexts sources firsts₀ lasts₀ waiting₀ levels₀ stack₀ winners₀ moves₀ work₀ n left₀ high₀ p₀ firsts lasts waiting levels stack winners moves work left high p = p

@@ -6,16 +6,16 @@ use borrow.Author.Count.{below-none, below-more}
 use lib.ListN.{length, getD}
 use Prim.Native.Nat.{ℕ, _≤_, _<_, _-_}
 use native.Mathlib.Omega.{arith}
-use Rattle.game.specs.Answer.{markOf}
+use Rattle.game.specs.promise.Answer.{markOf}
 use mathlib.Core.Path.{_≡_, sym, ap, _∙_}
 use Rattle.checker.proofs.answers.is_escape.Statement.{statement}
 use Rattle.checker.proofs.answers.is_escape.Tie as tie
 
 abbrev Inv-loop : tie.InvT-loop
-Inv-loop owner stretch winners p i₀ i = (i ≤ length stretch) × ((k : ℕ) → k < i → markOf winners (getD stretch k 0) ≡ p)
+Inv-loop stretch winners bit i₀ i = (i ≤ length stretch) × ((k : ℕ) → k < i → markOf winners (getD stretch k 0) ≡ bit)
 
 abbrev μ-loop : tie.MeasureT-loop
-μ-loop owner stretch winners p i₀ i = length stretch - i
+μ-loop stretch winners bit i₀ i = length stretch - i
 
 returns : tie.Need-returns Inv-loop μ-loop
 returns c = says-no (λ h. h .loser (c .if1 .taken))
@@ -33,7 +33,7 @@ wide-requires : tie.Need-wide-requires Inv-loop μ-loop
 wide-requires c κs = search needs
 
 mark-requires : tie.Need-mark-requires Inv-loop μ-loop
-mark-requires c κs = rw (c .wide .ensures) (c .before .before .before .before .before .before .before .pre _ (search needs))
+mark-requires c κs = rw (c .wide .ensures) (c .before .before .before .before .before .before .before .before .pre _ (search needs))
 
 returns-2 : tie.Need-returns-2 Inv-loop μ-loop
 returns-2 c =

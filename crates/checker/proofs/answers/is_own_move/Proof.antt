@@ -2,7 +2,7 @@
 -- Assumes nothing.
 use borrow.Author.Needs.{needs}
 use Rattle.checker.proofs.Says.{says-no, says-eqb}
-use Rattle.game.specs.Answer.{markOf}
+use Rattle.game.specs.promise.Answer.{markOf}
 use mathlib.Core.Path.{sym, ap, _∙_}
 use Rattle.checker.proofs.answers.is_own_move.Statement.{statement}
 use Rattle.checker.proofs.answers.is_own_move.Tie as tie
@@ -20,8 +20,8 @@ mark-requires c κs =
 
 returns : tie.Need-returns
 returns c =
-    let h = c .before .before .before .is-successor .ensures .holds (c .before .before .if1 .taken) in
-    let e = c .mark .ensures ∙ ap (markOf _) (c .before .wide .ensures) in
+    let h = c .before .before .before .before .is-successor .ensures .holds (c .before .before .before .if1 .taken) in
+    let e = c .before .mark .ensures ∙ ap (markOf _) (c .before .before .wide .ensures) in
     says-eqb (λ q. record { listed = h; same = sym e ∙ q }) (λ o. e ∙ o .same)
 
 returns-2 : tie.Need-returns-2

@@ -2,7 +2,8 @@
 -- Assumes nothing.
 use borrow.Author.Needs.{needs}
 use Rattle.checker.proofs.Says.{says-yes, says-no}
-use Rattle.refusal.specs.Found.{Scanned, scan-none, scan-more}
+use Rattle.refusal.specs.parts.Found.{Scanned}
+use Rattle.refusal.proofs.Scans.{scan-none, scan-more}
 use lib.ListN.{length, getD}
 use mathlib.Core.Path.{_≡_}
 use Prim.Native.Nat.{ℕ, _≤_, _-_}

@@ -3,7 +3,7 @@
 use borrow.Author.Needs.{needs}
 use mathlib.Core.Path.{_≡_}
 use Rattle.checker.proofs.Says.{says-not, says-eqb}
-use Rattle.checker.specs.Tests.{own, other}
+use Rattle.checker.specs.parts.Tests.{own, other}
 use Rattle.checker.proofs.answers.is_wrong_move.Statement.{statement}
 use Rattle.checker.proofs.answers.is_wrong_move.Tie as tie
 
@@ -15,7 +15,7 @@ returns c = says-not (λ o w. elim w [ own e h ↦ h o | other ne h ↦ ne (c .b
 
 returns-2 : tie.Need-returns-2
 returns-2 c =
-    says-not {P = c .before .before .before .args .m ≡ 65535} (λ e w. elim w [ own o h ↦ c .if1 .left o | other ne h ↦ h e ]) (λ h. other (c .if1 .left) h)
+    says-not {P = c .before .before .before .before .before .args .m ≡ 65535} (λ e w. elim w [ own o h ↦ c .if1 .left o | other ne h ↦ h e ]) (λ h. other (c .if1 .left) h)
     (says-eqb (λ e. e) (λ e. e))
 
 pub is-wrong-move-spec : {M : Type 1} → statement M

@@ -2,11 +2,12 @@
 -- Assumes nothing.
 use borrow.Author.Needs.{needs}
 use Rattle.checker.proofs.Stretches.{stretch-marks, says13}
-use Rattle.winning.specs.Answer.{Fault13}
+use Rattle.winning.specs.promise.Faults.{Fault13}
 use Rattle.game.proofs.Starts.{stretch-of}
-use Rattle.game.specs.Tables.{gameOf}
-use Rattle.game.specs.Answer.{markOf, moveOf}
-use Rattle.refusal.specs.Found.{Scanned, scan-none, scan-more, scan-found, scan-all}
+use Rattle.game.specs.promise.Tables.{gameOf, tablesOf}
+use Rattle.game.specs.promise.Answer.{markOf, moveOf}
+use Rattle.refusal.specs.parts.Found.{Scanned}
+use Rattle.refusal.proofs.Scans.{scan-none, scan-more, scan-found, scan-all}
 use lib.ListN.{length}
 use mathlib.Core.Path.{_≡_, refl}
 use Prim.Native.Nat.{_≤_, _-_}
@@ -15,7 +16,7 @@ use Rattle.checker.proofs.answers.open_escape.Statement.{statement}
 use Rattle.checker.proofs.answers.open_escape.Tie as tie
 
 abbrev Inv-loop : tie.InvT-loop
-Inv-loop owners priorities starts targets winners moves n v₀ v = (v ≤ length owners) × (n ≡ length owners) × Scanned (Fault13 (gameOf owners priorities starts targets) (markOf winners) (moveOf moves)) v
+Inv-loop owners priorities starts targets winners moves n v₀ v = (v ≤ length owners) × (n ≡ length owners) × Scanned (Fault13 (gameOf (tablesOf owners priorities starts targets)) (markOf winners) (moveOf moves)) v
 
 abbrev μ-loop : tie.MeasureT-loop
 μ-loop owners priorities starts targets winners moves n v₀ v = length owners - v
@@ -29,8 +30,8 @@ loop-holds c = (search needs, refl, scan-none)
 mark-requires : tie.Need-mark-requires Inv-loop μ-loop
 mark-requires c κs = omega (arith, start (c .before) .pre .winners-long)
 
-shared-slice-read-is-escape : tie.Need-shared-slice-read-is-escape Inv-loop μ-loop
-shared-slice-read-is-escape c = search needs
+shared-slice-read-t14 : tie.Need-shared-slice-read-t14 Inv-loop μ-loop
+shared-slice-read-t14 c = search needs
 
 successors-requires : tie.Need-successors-requires Inv-loop μ-loop
 successors-requires c κs = stretch-of _ _ _ (start (c .before .before .before) .pre .well-formed .placed) _ (search needs)
@@ -67,7 +68,7 @@ open-escape-spec =
     μ-loop
     loop-holds
     mark-requires
-    shared-slice-read-is-escape
+    shared-slice-read-t14
     successors-requires
     is-escape-requires
     returns

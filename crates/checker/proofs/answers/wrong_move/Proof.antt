@@ -2,11 +2,12 @@
 -- Assumes nothing.
 use borrow.Author.Needs.{needs}
 use Rattle.checker.proofs.Stretches.{stretch-marks, says12}
-use Rattle.winning.specs.Answer.{Fault12, own, other}
+use Rattle.winning.specs.promise.Faults.{Fault12, own, other}
 use Rattle.game.proofs.Starts.{stretch-of}
-use Rattle.game.specs.Tables.{gameOf}
-use Rattle.game.specs.Answer.{markOf, moveOf}
-use Rattle.refusal.specs.Found.{Scanned, scan-none, scan-more, scan-found, scan-all}
+use Rattle.game.specs.promise.Tables.{gameOf, tablesOf}
+use Rattle.game.specs.promise.Answer.{markOf, moveOf}
+use Rattle.refusal.specs.parts.Found.{Scanned}
+use Rattle.refusal.proofs.Scans.{scan-none, scan-more, scan-found, scan-all}
 use lib.ListN.{length}
 use mathlib.Core.Path.{_≡_, refl}
 use Prim.Native.Nat.{_≤_, _-_}
@@ -15,7 +16,7 @@ use Rattle.checker.proofs.answers.wrong_move.Statement.{statement}
 use Rattle.checker.proofs.answers.wrong_move.Tie as tie
 
 abbrev Inv-loop : tie.InvT-loop
-Inv-loop owners priorities starts targets winners moves n v₀ v = (v ≤ length owners) × (n ≡ length owners) × Scanned (Fault12 (gameOf owners priorities starts targets) (markOf winners) (moveOf moves)) v
+Inv-loop owners priorities starts targets winners moves n v₀ v = (v ≤ length owners) × (n ≡ length owners) × Scanned (Fault12 (gameOf (tablesOf owners priorities starts targets)) (markOf winners) (moveOf moves)) v
 
 abbrev μ-loop : tie.MeasureT-loop
 μ-loop owners priorities starts targets winners moves n v₀ v = length owners - v
@@ -32,8 +33,8 @@ mark-requires c κs = omega (arith, start (c .before) .pre .winners-long)
 recorded-requires : tie.Need-recorded-requires Inv-loop μ-loop
 recorded-requires c κs = omega (arith, start (c .before .before) .pre .moves-long)
 
-shared-slice-read-is-wrong-move : tie.Need-shared-slice-read-is-wrong-move Inv-loop μ-loop
-shared-slice-read-is-wrong-move c = search needs
+shared-slice-read-t15 : tie.Need-shared-slice-read-t15 Inv-loop μ-loop
+shared-slice-read-t15 c = search needs
 
 successors-requires : tie.Need-successors-requires Inv-loop μ-loop
 successors-requires c κs = stretch-of _ _ _ (start (c .before .before .before .before) .pre .well-formed .placed) _ (search needs)
@@ -71,7 +72,7 @@ wrong-move-spec =
     loop-holds
     mark-requires
     recorded-requires
-    shared-slice-read-is-wrong-move
+    shared-slice-read-t15
     successors-requires
     is-wrong-move-requires
     returns

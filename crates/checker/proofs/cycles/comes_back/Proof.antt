@@ -3,8 +3,9 @@
 use borrow.Author.Needs.{needs}
 use Rattle.checker.proofs.Comes.{move-within, by-move, stretch-within, stretch-read, by-stretch, by-none}
 use Rattle.checker.proofs.Says.{says-yes, says-no}
-use Rattle.reach.specs.Work.{section}
-use Rattle.refusal.specs.Found.{Scanned, scan-none, scan-more}
+use Rattle.reach.specs.parts.Work.{section}
+use Rattle.refusal.specs.parts.Found.{Scanned}
+use Rattle.refusal.proofs.Scans.{scan-none, scan-more}
 use native.Mathlib.Omega.{arith}
 use lib.ListN.{length, getD}
 use mathlib.Core.Path.{_≡_, _∙_, sym}

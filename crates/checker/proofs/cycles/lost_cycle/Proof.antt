@@ -28,7 +28,7 @@ slice-aggregate-predecessors-3 : tie.Need-slice-aggregate-predecessors-3
 slice-aggregate-predecessors-3 c = search needs
 
 predecessors-requires : tie.Need-predecessors-requires
-predecessors-requires c κs = buildable _ _ _ _ _ _ _ (start c .pre .passed .answered .well-formed) refl refl refl
+predecessors-requires c κs = buildable _ _ _ _ (start c .pre .passed .answered .well-formed) refl refl refl
 
 set-levels-requires : tie.Need-set-levels-requires
 set-levels-requires c κs = levels-long (start (c .before .before .before .before .before) .pre)

@@ -2,11 +2,12 @@
 -- Assumes nothing.
 use borrow.Author.Needs.{needs}
 use Rattle.checker.proofs.Rounds.{fault14-vertex}
-use Rattle.checker.specs.Rounds.{Ready}
-use Rattle.winning.specs.Answer.{Fault14}
-use Rattle.game.specs.Answer.{markOf, moveOf}
-use Rattle.game.specs.Tables.{gameOf}
-use Rattle.refusal.specs.Found.{Scanned, scan-none, scan-more, scan-found, scan-all}
+use Rattle.checker.specs.parts.Rounds.{Ready}
+use Rattle.winning.specs.promise.Faults.{Fault14}
+use Rattle.game.specs.promise.Answer.{markOf, moveOf}
+use Rattle.game.specs.promise.Tables.{gameOf, tablesOf}
+use Rattle.refusal.specs.parts.Found.{Scanned}
+use Rattle.refusal.proofs.Scans.{scan-none, scan-more, scan-found, scan-all}
 use lib.ListN.{length}
 use mathlib.Core.Path.{_≡_, refl, sym, _∙_}
 use Prim.Native.Nat.{_≤_, _-_}
@@ -16,7 +17,7 @@ use Rattle.checker.proofs.cycles.lowest_lost.Tie as tie
 
 abbrev Inv-loop : tie.InvT-loop
 Inv-loop owners priorities starts targets winners moves heads nexts sources work₀ n x₀ work x =
-    (x ≤ length owners) × (n ≡ length owners) × (length work ≡ length work₀) × Ready (length owners) priorities work × Scanned (Fault14 (gameOf owners priorities starts targets) (markOf winners) (moveOf moves)) x
+    (x ≤ length owners) × (n ≡ length owners) × (length work ≡ length work₀) × Ready (length owners) priorities work × Scanned (Fault14 (gameOf (tablesOf owners priorities starts targets)) (markOf winners) (moveOf moves)) x
 
 abbrev μ-loop : tie.MeasureT-loop
 μ-loop owners priorities starts targets winners moves heads nexts sources work₀ n x₀ work x = length owners - x

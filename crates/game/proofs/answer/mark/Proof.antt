@@ -1,7 +1,7 @@
 -- `game::answer::mark` meets its contract: it reads the winners' list where `markOf` does.
 -- Assumes nothing.
 use borrow.Author.Needs.{needs}
-use Rattle.game.specs.Answer.{markRoom, markOf}
+use Rattle.game.specs.promise.Answer.{markRoom, markOf}
 use mathlib.Core.Path.{refl}
 use Rattle.game.proofs.answer.mark.Statement.{statement}
 use Rattle.game.proofs.answer.mark.Tie as tie

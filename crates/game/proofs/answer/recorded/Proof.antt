@@ -1,7 +1,7 @@
 -- `game::answer::recorded` meets its contract: it reads the list of moves where `moveOf` does.
 -- Assumes nothing.
 use borrow.Author.Needs.{needs}
-use Rattle.game.specs.Answer.{moveOf}
+use Rattle.game.specs.promise.Answer.{moveOf}
 use mathlib.Core.Path.{refl}
 use Rattle.game.proofs.answer.recorded.Statement.{statement}
 use Rattle.game.proofs.answer.recorded.Tie as tie

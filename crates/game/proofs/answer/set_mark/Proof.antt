@@ -2,7 +2,7 @@
 -- Assumes nothing.
 use borrow.Author.Needs.{needs}
 use Rattle.game.proofs.Stores.{mark-set}
-use Rattle.game.specs.Answer.{markRoom}
+use Rattle.game.specs.promise.Answer.{markRoom}
 use Rattle.game.proofs.answer.set_mark.Statement.{statement}
 use Rattle.game.proofs.answer.set_mark.Tie as tie
 

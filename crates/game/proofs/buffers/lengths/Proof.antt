@@ -1,27 +1,25 @@
--- `game::buffers::lengths` meets its contract. Row 8: each test that holds is one of its cases; if none does the buffers fit (Sizes).
+-- `game::buffers::lengths` meets its contract: the three lengths are compared in turn (Sizes).
 -- Assumes nothing.
+use Rattle.game.proofs.Sizes.{no-lists}
 use borrow.Author.Needs.{needs}
-use Rattle.game.proofs.Sizes.{lengths-fit}
-use Rattle.game.specs.Buffers.{winners-long, moves-long, work-long}
-use Rattle.refusal.specs.Found.{scan-none, scan-found}
-use mathlib.Core.Path.{refl}
 use Rattle.game.proofs.buffers.lengths.Statement.{statement}
 use Rattle.game.proofs.buffers.lengths.Tie as tie
 
+mul-compare : tie.Need-mul-compare
+mul-compare c = search needs
+
+compare-requires : tie.Need-compare-requires
+compare-requires c κs = search needs
+
+compare-requires-2 : tie.Need-compare-requires-2
+compare-requires-2 c κs = search needs
+
+compare-requires-3 : tie.Need-compare-requires-3
+compare-requires-3 c κs = search needs
+
 returns : tie.Need-returns
-returns c = scan-found scan-none (winners-long refl (c .if1 .taken))
-
-returns-2 : tie.Need-returns-2
-returns-2 c = scan-found scan-none (moves-long refl (c .if2 .taken))
-
-mul-if3 : tie.Need-mul-if3
-mul-if3 c = search needs
-
-returns-3 : tie.Need-returns-3
-returns-3 c = scan-found scan-none (work-long refl (c .if3 .taken))
-
-returns-4 : tie.Need-returns-4
-returns-4 c = lengths-fit _ _ _ _ (search needs) (search needs) (search needs)
+returns c = c .compare3 .ensures .joins _ (c .before .compare2 .ensures .joins _ (c .before .before .compare .ensures .joins _ no-lists))
 
 pub lengths-spec : {M : Type 1} → statement M
-lengths-spec = tie.close (tie.spec returns returns-2 mul-if3 returns-3 returns-4)
+lengths-spec =
+    tie.close (tie.spec mul-compare compare-requires compare-requires-2 compare-requires-3 returns)

@@ -3,8 +3,9 @@
 use borrow.Author.Needs.{needs}
 use mathlib.Core.Path.{_≡_, subst}
 use mathlib.Core.List.{List}
-use Rattle.game.specs.Faults.{Descent}
-use Rattle.refusal.specs.Found.{Scanned, scan-more, scan-found, scan-all}
+use Rattle.game.specs.promise.Faults.{Descent}
+use Rattle.refusal.specs.parts.Found.{Scanned}
+use Rattle.refusal.proofs.Scans.{scan-more, scan-found, scan-all}
 use lib.ListN.{length, getD}
 use Prim.Native.Nat.{ℕ, _≤_, _<_, _-_}
 use native.Mathlib.Omega.{arith}

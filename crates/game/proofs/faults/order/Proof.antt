@@ -3,7 +3,8 @@
 use borrow.Author.Needs.{needs}
 use Rattle.game.proofs.Order.{Unordered, order-found, order-within, order-more, order-none}
 use Rattle.game.proofs.Starts.{stretch-of}
-use Rattle.refusal.specs.Found.{Scanned, scan-none}
+use Rattle.refusal.specs.parts.Found.{Scanned}
+use Rattle.refusal.proofs.Scans.{scan-none}
 use Prim.Native.Nat.{_≤_, _-_}
 use native.Mathlib.Omega.{arith}
 use Rattle.game.proofs.faults.order.Statement.{statement}

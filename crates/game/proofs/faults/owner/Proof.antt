@@ -4,8 +4,9 @@ use borrow.Author.Needs.{needs}
 use native.Mathlib.Omega.{arith}
 use Prim.Native.Nat.{_≤_, _-_}
 use lib.ListN.{length}
-use Rattle.refusal.specs.Found.{Scanned, scan-none, scan-more, scan-found, scan-all}
-use Rattle.game.specs.Faults.{Fault2}
+use Rattle.refusal.specs.parts.Found.{Scanned}
+use Rattle.refusal.proofs.Scans.{scan-none, scan-more, scan-found, scan-all}
+use Rattle.game.specs.promise.Faults.{Fault2}
 use Rattle.game.proofs.faults.owner.Statement.{statement}
 use Rattle.game.proofs.faults.owner.Tie as tie
 
@@ -22,7 +23,7 @@ shared-slice-read-if1 : tie.Need-shared-slice-read-if1 Inv-loop μ-loop
 shared-slice-read-if1 c = search needs
 
 returns : tie.Need-returns Inv-loop μ-loop
-returns c = scan-found (c .before .before .before .loop .inv .1) (record { vertex = search needs; strange = λ l. omega arith })
+returns c = scan-found (c .before .before .before .before .loop .inv .1) (record { vertex = search needs; strange = λ l. omega arith })
 
 add-v : tie.Need-add-v Inv-loop μ-loop
 add-v c = search needs
@@ -31,7 +32,7 @@ loop-less : tie.Need-loop-less Inv-loop μ-loop
 loop-less c = search needs
 
 loop-again : tie.Need-loop-again Inv-loop μ-loop
-loop-again c = (search needs, scan-more (c .before .before .before .loop .inv .1) (λ f. f .strange (search needs)))
+loop-again c = (search needs, scan-more (c .before .before .before .before .loop .inv .1) (λ f. f .strange (search needs)))
 
 returns-2 : tie.Need-returns-2 Inv-loop μ-loop
 returns-2 c = scan-all (c .before .loop .inv .1) (λ x f. omega arith)

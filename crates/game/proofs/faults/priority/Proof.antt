@@ -1,18 +1,20 @@
 -- `game::faults::priority` meets its contract. Row 3 is a scan; the invariant: no priority passed is 255.
 -- Assumes nothing.
 use borrow.Author.Needs.{needs}
-use Rattle.game.specs.Faults.{Fault3}
-use Rattle.refusal.specs.Found.{Scanned, scan-none, scan-more, scan-found, scan-all}
+use Rattle.game.specs.promise.Faults.{Fault3}
+use Rattle.refusal.specs.parts.Found.{Scanned}
+use Rattle.refusal.proofs.Scans.{scan-none, scan-more, scan-found, scan-all}
 use Prim.Native.Nat.{_≤_, _-_}
 use native.Mathlib.Omega.{arith}
+use lib.ListN.{length}
 use Rattle.game.proofs.faults.priority.Statement.{statement}
 use Rattle.game.proofs.faults.priority.Tie as tie
 
 abbrev Inv-loop : tie.InvT-loop
-Inv-loop n priorities v₀ v = (v ≤ n) × Scanned (Fault3 n priorities) v
+Inv-loop priorities v₀ v = (v ≤ length priorities) × Scanned (Fault3 priorities) v
 
 abbrev μ-loop : tie.MeasureT-loop
-μ-loop n priorities v₀ v = n - v
+μ-loop priorities v₀ v = length priorities - v
 
 loop-holds : tie.Need-loop-holds Inv-loop μ-loop
 loop-holds c = (search needs, scan-none)

@@ -2,8 +2,8 @@
 -- Assumes nothing.
 use borrow.Author.Needs.{needs}
 use Rattle.game.proofs.Sizes.{none-of-fitting}
-use Rattle.game.specs.Faults.{no-vertex, over-2048, differ, not-n+1, over-16384}
-use Rattle.refusal.specs.Found.{scan-none, scan-found}
+use Rattle.game.specs.promise.Faults.{no-vertex, over-2048, differ, not-n+1, over-16384}
+use Rattle.refusal.proofs.Scans.{scan-none, scan-found}
 use mathlib.Core.Path.{refl, sym}
 use Rattle.game.proofs.faults.sizes.Statement.{statement}
 use Rattle.game.proofs.faults.sizes.Tie as tie
@@ -27,7 +27,7 @@ returns-5 : tie.Need-returns-5
 returns-5 c = scan-found scan-none (over-16384 refl (c .if5 .taken))
 
 returns-6 : tie.Need-returns-6
-returns-6 c = none-of-fitting _ _ _ _ (record { some = search needs; few = search needs; level = search needs; bounds = search needs; edges = search needs })
+returns-6 c = none-of-fitting _ (record { some = search needs; few = search needs; level = search needs; bounds = search needs; edges = search needs })
 
 pub sizes-spec : {M : Type 1} → statement M
 sizes-spec = tie.close (tie.spec returns returns-2 returns-3 add-if4 returns-4 returns-5 returns-6)

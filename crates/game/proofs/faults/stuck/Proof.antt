@@ -3,8 +3,9 @@
 use borrow.Author.Needs.{needs}
 use mathlib.Core.Path.{ap, sym, _∙_}
 use Rattle.game.proofs.Starts.{stretch-of}
-use Rattle.game.specs.Faults.{Fault5}
-use Rattle.refusal.specs.Found.{Scanned, scan-none, scan-more, scan-found, scan-all}
+use Rattle.game.specs.promise.Faults.{Fault5}
+use Rattle.refusal.specs.parts.Found.{Scanned}
+use Rattle.refusal.proofs.Scans.{scan-none, scan-more, scan-found, scan-all}
 use lib.ListN.{length}
 use Prim.Native.Nat.{_≤_, _-_}
 use native.Mathlib.Omega.{arith}

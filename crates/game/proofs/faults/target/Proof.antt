@@ -1,8 +1,9 @@
 -- `game::faults::target` meets its contract. Row 6 is a scan; the invariant: no target passed is outside.
 -- Assumes nothing.
 use borrow.Author.Needs.{needs}
-use Rattle.game.specs.Faults.{Fault6}
-use Rattle.refusal.specs.Found.{Scanned, scan-none, scan-more, scan-found, scan-all}
+use Rattle.game.specs.promise.Faults.{Fault6}
+use Rattle.refusal.specs.parts.Found.{Scanned}
+use Rattle.refusal.proofs.Scans.{scan-none, scan-more, scan-found, scan-all}
 use lib.ListN.{length}
 use Prim.Native.Nat.{_≤_, _-_}
 use native.Mathlib.Omega.{arith}

@@ -1,9 +1,11 @@
 -- `game::vertex::test_vertex` meets its contract. A scan of the stretch; the invariant: no successor passed is marked for the owner.
 -- Assumes nothing.
 use borrow.Author.Needs.{needs}
-use Rattle.game.specs.Answer.{markOf, MarkedFor}
+use Rattle.game.specs.promise.Answer.{markOf}
+use Rattle.game.specs.parts.Answers.{MarkedFor}
 use mathlib.Core.Path.{refl, ap, sym, _∙_}
-use Rattle.refusal.specs.Found.{Scanned, scan-none, scan-more, scan-found, scan-all}
+use Rattle.refusal.specs.parts.Found.{Scanned}
+use Rattle.refusal.proofs.Scans.{scan-none, scan-more, scan-found, scan-all}
 use lib.ListN.{length}
 use Prim.Native.Nat.{_≤_, _-_}
 use native.Mathlib.Omega.{arith}

@@ -1,11 +1,11 @@
 -- `housefile::block::others` meets its contract. Row 44: byte 3, the used count, the unused part and, in block 0, the rule.
 -- Assumes nothing.
 use Rattle.housefile.proofs.BlockTests.{byte3-wrong, rule-wrong, used-wrong, unused-wrong, others-right}
-use Rattle.housefile.specs.Tests.{Stain}
-use Rattle.housefile.specs.Faults.{Fault44}
-use Rattle.housefile.specs.Filed.{ruleFiled}
-use Rattle.refusal.specs.Found.{found-at, found-nowhere}
-use Rattle.refusal.specs.Row.{NoPlace}
+use Rattle.housefile.specs.parts.Tests.{Stain}
+use Rattle.housefile.specs.promise.Faults.{Fault44}
+use Rattle.housefile.specs.promise.Filed.{ruleFiled}
+use Rattle.refusal.proofs.Scans.{found-at, found-nowhere}
+use Rattle.refusal.specs.promise.Row.{NoPlace}
 use denote.Ref.{now}
 use Prim.Native.Nat.{_≤_}
 use mathlib.Core.Path.{_≡_}

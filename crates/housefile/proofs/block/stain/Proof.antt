@@ -1,8 +1,9 @@
 -- `housefile::block::stain` meets its contract. The lowest unused byte that is not zero. Invariant: none of those passed is.
 -- Assumes nothing.
 use Prim.Native.Nat.{_≤_, _-_}
-use Rattle.housefile.specs.Tests.{Stain}
-use Rattle.refusal.specs.Found.{Scanned, scan-more, scan-found, scan-all}
+use Rattle.housefile.specs.parts.Tests.{Stain}
+use Rattle.refusal.specs.parts.Found.{Scanned}
+use Rattle.refusal.proofs.Scans.{scan-more, scan-found, scan-all}
 use native.Mathlib.Omega.{arith}
 use borrow.Author.Needs.{needs}
 use Rattle.housefile.proofs.block.stain.Statement.{statement}

@@ -2,10 +2,10 @@
 -- Assumes nothing.
 use denote.Ref.{now}
 use Rattle.housefile.proofs.InTurn.{Passing, passing-none, passing-more, total-is, passing-first, passing-all, passing-present}
-use Rattle.housefile.proofs.Said.{is-refused, is-passed}
-use Rattle.housefile.specs.Faults.{blockRows}
-use Rattle.housefile.specs.Filed.{verticesFiled, edgesFiled}
-use Rattle.housefile.specs.Format.{vertexBlocks, targetBlocks}
+use Rattle.refusal.proofs.Rows.{tested-refused, tested-passed}
+use Rattle.housefile.specs.promise.Faults.{blockRows}
+use Rattle.housefile.specs.promise.Filed.{verticesFiled, edgesFiled}
+use Rattle.housefile.specs.promise.Format.{vertexBlocks, targetBlocks}
 use native.Mathlib.Omega.{arith}
 use Prim.Native.Nat.{_+_, _-_}
 use mathlib.Core.Path.{_≡_}
@@ -46,14 +46,14 @@ add-block c = search needs
 block-requires : tie.Need-block-requires Inv-loop μ-loop
 block-requires c κs = passing-present _ _ (c .before .loop .inv .0) _ (c .before .before .before .before .before .before .before .pre) (c .loop-test .taken)
 
-enum-known-judged : tie.Need-enum-known-judged Inv-loop μ-loop
-enum-known-judged c = search needs
+enum-known-tested : tie.Need-enum-known-tested Inv-loop μ-loop
+enum-known-tested c = search needs
 
 returns : tie.Need-returns Inv-loop μ-loop
 returns c =
     let b = c .before .before .before in
     let l = b .before in
-    passing-first _ _ (l .before .loop .inv .0) _ (l .before .loop .inv .1) (l .loop-test .taken) _ _ (is-refused (blockRows _ _) (c .before .judged .given .1) (b .block .ensures))
+    passing-first _ _ (l .before .loop .inv .0) _ (l .before .loop .inv .1) (l .loop-test .taken) _ _ (tested-refused (blockRows _ _) (c .before .tested .given .1) (b .block .ensures))
 
 enum-told : tie.Need-enum-told Inv-loop μ-loop
 enum-told c = search needs
@@ -68,7 +68,7 @@ loop-again : tie.Need-loop-again Inv-loop μ-loop
 loop-again c =
     let b = c .before .before in
     let i = b .before .before .loop .inv in
-    (i .0, passing-more (i .1) (is-passed (blockRows _ _) (c .enum-told .given .1) (b .block .ensures)))
+    (i .0, passing-more (i .1) (tested-passed (blockRows _ _) (c .enum-told .given .1) (b .block .ensures)))
 
 returns-2 : tie.Need-returns-2 Inv-loop μ-loop
 returns-2 c = passing-all _ _ (c .before .loop .inv .0) _ (c .before .loop .inv .1) (c .loop-test .left)
@@ -87,7 +87,7 @@ blocks-spec =
     loop-holds
     add-block
     block-requires
-    enum-known-judged
+    enum-known-tested
     returns
     enum-told
     add-b

@@ -1,8 +1,8 @@
 -- `housefile::head::sizes` meets its contract. Row 1 on the numbers in block 0.
 -- Assumes nothing.
 use Rattle.housefile.proofs.HeadTests.{sizes-right}
-use Rattle.housefile.specs.Faults.{no-vertex, over-2048, over-16384}
-use Rattle.refusal.specs.Found.{scan-none, scan-found}
+use Rattle.housefile.specs.promise.Faults.{no-vertex, over-2048, over-16384}
+use Rattle.refusal.proofs.Scans.{scan-none, scan-found}
 use native.Mathlib.Omega.{arith}
 use mathlib.Core.Path.{refl, sym, _∙_}
 use borrow.Author.Needs.{needs}

@@ -1,7 +1,7 @@
 -- `housefile::places::target` meets its contract. The target that stands at an edge's place.
 -- Assumes nothing.
 use Rattle.housefile.proofs.Lists.{target-at}
-use Rattle.housefile.specs.Filed.{wordAt}
+use Rattle.housefile.specs.promise.Filed.{wordAt}
 use denote.Ref.{now}
 use Prim.Native.Nat.{ℕ, _+_, _*_, _/_, _%_}
 use mathlib.Core.Path.{sym, ap, _∙_}

@@ -1,9 +1,10 @@
 -- `housefile::values::descent` meets its contract. A stretch of the targets. Invariant: those passed ascend.
 -- Assumes nothing.
 use Rattle.housefile.proofs.ValueTests.{descent-first, descent-here, descent-not, descent-within}
-use Rattle.housefile.specs.Filed.{targetsFiled}
-use Rattle.game.specs.Faults.{Descent}
-use Rattle.refusal.specs.Found.{Scanned, scan-more, scan-found, scan-all}
+use Rattle.housefile.specs.promise.Filed.{targetsFiled}
+use Rattle.game.specs.promise.Faults.{Descent}
+use Rattle.refusal.specs.parts.Found.{Scanned}
+use Rattle.refusal.proofs.Scans.{scan-more, scan-found, scan-all}
 use lib.ListN.{take, drop}
 use native.Mathlib.Omega.{arith}
 use Prim.Native.Nat.{_-_, _≤_}

@@ -3,10 +3,11 @@
 use denote.Ref.{now}
 use Rattle.housefile.proofs.ValueTests.{target-outside, target-inside}
 use Rattle.housefile.proofs.Lists.{targets-long}
-use Rattle.housefile.specs.Tests.{firstTarget}
-use Rattle.housefile.specs.Filed.{verticesFiled, edgesFiled, targetsFiled}
-use Rattle.game.specs.Faults.{Fault6}
-use Rattle.refusal.specs.Found.{Scanned, scan-none, scan-more, scan-found, scan-all}
+use Rattle.housefile.specs.parts.Tests.{firstTarget}
+use Rattle.housefile.specs.promise.Filed.{verticesFiled, edgesFiled, targetsFiled}
+use Rattle.game.specs.promise.Faults.{Fault6}
+use Rattle.refusal.specs.parts.Found.{Scanned}
+use Rattle.refusal.proofs.Scans.{scan-none, scan-more, scan-found, scan-all}
 use native.Mathlib.Omega.{arith}
 use Prim.Native.Nat.{_-_}
 use mathlib.Core.Path.{_≡_}

@@ -2,9 +2,10 @@
 -- Assumes nothing.
 use denote.Ref.{now}
 use Rattle.housefile.proofs.ValueTests.{owner-strange, owner-player, owner-vertex}
-use Rattle.housefile.specs.Filed.{verticesFiled, ownersFiled}
-use Rattle.game.specs.Faults.{Fault2}
-use Rattle.refusal.specs.Found.{Scanned, scan-none, scan-more, scan-found, scan-all}
+use Rattle.housefile.specs.promise.Filed.{verticesFiled, ownersFiled}
+use Rattle.game.specs.promise.Faults.{Fault2}
+use Rattle.refusal.specs.parts.Found.{Scanned}
+use Rattle.refusal.proofs.Scans.{scan-none, scan-more, scan-found, scan-all}
 use native.Mathlib.Omega.{arith}
 use Prim.Native.Nat.{_-_}
 use mathlib.Core.Path.{_≡_}
@@ -28,7 +29,7 @@ owner-requires : tie.Need-owner-requires Inv-loop μ-loop
 owner-requires c κs = record { sized = c .before .before .before .before .pre; below = omega arith }
 
 returns : tie.Need-returns Inv-loop μ-loop
-returns c = let l = c .before .before .before in scan-found (l .loop .inv .1) (owner-strange (now (l .before .before .before .args .file)) _ (l .loop .inv .0) _ _ (search needs) (c .before .owner .ensures) (c .if1 .taken))
+returns c = let l = c .before .before .before .before in scan-found (l .loop .inv .1) (owner-strange (now (l .before .before .before .args .file)) _ (l .loop .inv .0) _ _ (search needs) (c .before .before .owner .ensures) (c .if1 .taken))
 
 add-v : tie.Need-add-v Inv-loop μ-loop
 add-v c = search needs
@@ -37,7 +38,7 @@ loop-less : tie.Need-loop-less Inv-loop μ-loop
 loop-less c = search needs
 
 loop-again : tie.Need-loop-again Inv-loop μ-loop
-loop-again c = let l = c .before .before .before in (l .loop .inv .0, scan-more (l .loop .inv .1) (owner-player (now (l .before .before .before .args .file)) _ (l .loop .inv .0) _ _ (c .before .owner .ensures) (c .if1 .left)))
+loop-again c = let l = c .before .before .before .before in (l .loop .inv .0, scan-more (l .loop .inv .1) (owner-player (now (l .before .before .before .args .file)) _ (l .loop .inv .0) _ _ (c .before .before .owner .ensures) (c .if1 .left)))
 
 returns-2 : tie.Need-returns-2 Inv-loop μ-loop
 returns-2 c = scan-all (c .before .loop .inv .1) (owner-vertex (now (c .before .before .before .before .args .file)) _ (c .before .loop .inv .0) _ 0 (c .loop-test .left))

@@ -2,9 +2,11 @@
 -- Assumes nothing.
 use denote.Ref.{now}
 use Rattle.housefile.proofs.ValueTests.{priority-top}
-use Rattle.housefile.specs.Filed.{verticesFiled, prioritiesFiled}
-use Rattle.game.specs.Faults.{Fault3}
-use Rattle.refusal.specs.Found.{Scanned, scan-none, scan-more, scan-found, scan-all}
+use Rattle.housefile.proofs.Lists.{priorities-long}
+use Rattle.housefile.specs.promise.Filed.{verticesFiled, prioritiesFiled}
+use Rattle.game.specs.promise.Faults.{Fault3}
+use Rattle.refusal.specs.parts.Found.{Scanned}
+use Rattle.refusal.proofs.Scans.{scan-none, scan-more, scan-found, scan-all}
 use native.Mathlib.Omega.{arith}
 use Prim.Native.Nat.{_-_}
 use mathlib.Core.Path.{_≡_, _∙_}
@@ -13,7 +15,7 @@ use Rattle.housefile.proofs.values.priorities.Statement.{statement}
 use Rattle.housefile.proofs.values.priorities.Tie as tie
 
 abbrev Inv-loop : tie.InvT-loop
-Inv-loop file n v₀ v = (n ≡ verticesFiled file) × Scanned (Fault3 (verticesFiled file) (prioritiesFiled file)) v
+Inv-loop file n v₀ v = (n ≡ verticesFiled file) × Scanned (Fault3 (prioritiesFiled file)) v
 
 abbrev μ-loop : tie.MeasureT-loop
 μ-loop file n v₀ v = n - v
@@ -40,7 +42,7 @@ loop-again : tie.Need-loop-again Inv-loop μ-loop
 loop-again c = let l = c .before .before .before in (l .loop .inv .0, scan-more (l .loop .inv .1) (λ f. c .if1 .left (c .before .priority .ensures ∙ f .top)))
 
 returns-2 : tie.Need-returns-2 Inv-loop μ-loop
-returns-2 c = scan-all (c .before .loop .inv .1) (λ x f. omega (arith, f .vertex))
+returns-2 c = scan-all (c .before .loop .inv .1) (λ x f. omega (arith, f .vertex, priorities-long (now (c .before .before .before .before .args .file))))
 
 pub priorities-spec : {M : Type 1} → statement M
 priorities-spec =

@@ -1,9 +1,10 @@
 -- `housefile::values::stuck` meets its contract. Row 5. Invariant: every vertex passed has a successor. A vertex's stretch is as long as its count.
 -- Assumes nothing.
 use Rattle.housefile.proofs.ValueTests.{stuck-here, moving-here}
-use Rattle.housefile.specs.Filed.{verticesFiled, startsFiled, targetsFiled}
-use Rattle.game.specs.Faults.{Fault5}
-use Rattle.refusal.specs.Found.{Scanned, scan-none, scan-more, scan-found, scan-all}
+use Rattle.housefile.specs.promise.Filed.{verticesFiled, startsFiled, targetsFiled}
+use Rattle.game.specs.promise.Faults.{Fault5}
+use Rattle.refusal.specs.parts.Found.{Scanned}
+use Rattle.refusal.proofs.Scans.{scan-none, scan-more, scan-found, scan-all}
 use native.Mathlib.Omega.{arith}
 use Prim.Native.Nat.{_-_}
 use mathlib.Core.Path.{_≡_}

@@ -1,7 +1,7 @@
 -- `housefile::values::total` meets its contract. The sum of the successor counts. Invariant `Total`: the sum of the counts passed.
 -- Assumes nothing.
 use Rattle.housefile.proofs.ValueTests.{Total, total-none, total-more, total-all}
-use Rattle.housefile.specs.Filed.{verticesFiled}
+use Rattle.housefile.specs.promise.Filed.{verticesFiled}
 use native.Mathlib.Omega.{arith}
 use Prim.Native.Nat.{_-_, _≤_}
 use mathlib.Core.Path.{_≡_}

@@ -4,7 +4,7 @@ use Prim.Native.Nat.{ℕ, _-_, _+_, _<_}
 use lib.ListN.{length}
 use Rattle.housefile.proofs.Turning.{Topping, topping-none, topping-higher, topping-lower, topping-all}
 use Rattle.housefile.proofs.Lists.{priorities-long}
-use Rattle.housefile.specs.Filed.{prioritiesFiled}
+use Rattle.housefile.specs.promise.Filed.{prioritiesFiled}
 use denote.Ref.{now}
 use native.Mathlib.Omega.{arith}
 use mathlib.Core.Logic.{⊎-elim}

@@ -2,7 +2,7 @@
 -- Assumes nothing.
 use Rattle.housefile.proofs.Filling.{Filling, filling-none, filling-more, filling-all}
 use Rattle.housefile.proofs.Lists.{owners-long}
-use Rattle.housefile.specs.Filed.{verticesFiled, ownersFiled}
+use Rattle.housefile.specs.promise.Filed.{verticesFiled, ownersFiled}
 use denote.Ref.{now}
 use native.Mathlib.Omega.{arith}
 use Prim.Native.Nat.{_-_}

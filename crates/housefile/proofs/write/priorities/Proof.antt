@@ -3,9 +3,9 @@
 use Rattle.housefile.proofs.Filling.{Filling, filling-none, filling-more, filling-all}
 use Rattle.housefile.proofs.Turning.{turned-long}
 use Rattle.housefile.proofs.Lists.{priorities-long}
-use Rattle.housefile.specs.Tests.{Tops}
-use Rattle.housefile.specs.Filed.{ruleFiled, prioritiesFiled}
-use Rattle.housefile.specs.Format.{turnedOf}
+use Rattle.housefile.specs.parts.Tests.{Tops}
+use Rattle.housefile.specs.promise.Filed.{ruleFiled, prioritiesFiled}
+use Rattle.housefile.specs.promise.Format.{turnedOf}
 use denote.Ref.{now}
 use native.Mathlib.Omega.{arith}
 use Prim.Native.Nat.{_-_}

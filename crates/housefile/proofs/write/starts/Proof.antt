@@ -3,7 +3,7 @@
 use Rattle.housefile.proofs.Running.{Running, running-none, running-small, running-more, running-start}
 use Rattle.housefile.proofs.Filling.{Filling, filling-none, filling-more, filling-all}
 use Rattle.housefile.proofs.Lists.{starts-long}
-use Rattle.housefile.specs.Filed.{verticesFiled, startsFiled}
+use Rattle.housefile.specs.promise.Filed.{verticesFiled, startsFiled}
 use denote.Ref.{now}
 use native.Mathlib.Omega.{arith}
 use Prim.Native.Nat.{_-_}

@@ -2,8 +2,8 @@
 -- Assumes nothing.
 use Rattle.housefile.proofs.Filling.{Filling, filling-none, filling-more, filling-all}
 use Rattle.housefile.proofs.Lists.{targets-long}
-use Rattle.housefile.specs.Tests.{TargetAt}
-use Rattle.housefile.specs.Filed.{targetsFiled}
+use Rattle.housefile.specs.parts.Tests.{TargetAt}
+use Rattle.housefile.specs.promise.Filed.{targetsFiled}
 use denote.Ref.{now}
 use native.Mathlib.Omega.{arith}
 use Prim.Native.Nat.{_-_}

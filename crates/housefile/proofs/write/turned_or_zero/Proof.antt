@@ -1,6 +1,6 @@
 -- `housefile::write::turned_or_zero` meets its contract. The priority of a vertex after the rule's turning, zero past the vertices.
 -- Assumes nothing.
-use Rattle.housefile.specs.Filed.{ruleFiled, prioritiesFiled}
+use Rattle.housefile.specs.promise.Filed.{ruleFiled, prioritiesFiled}
 use Rattle.housefile.proofs.Turning.{highest-above, turned-plain, turned-over, turned-past}
 use Rattle.housefile.proofs.Lists.{priorities-long}
 use denote.Ref.{now}

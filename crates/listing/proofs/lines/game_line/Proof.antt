@@ -1,7 +1,7 @@
 -- `listing::lines::game_line` meets its contract. The word, then the two fields (Fields).
 -- Assumes nothing.
 use borrow.Author.Needs.{needs}
-use Rattle.listing.specs.Text.{wordGame}
+use Rattle.listing.specs.promise.Text.{wordGame}
 use Rattle.listing.proofs.Fields.{worded-first, worded-second, worded-third, worded-all}
 use Rattle.listing.proofs.lines.game_line.Statement.{statement}
 use Rattle.listing.proofs.lines.game_line.Tie as tie

@@ -4,8 +4,8 @@ use borrow.Author.Needs.{needs}
 use Prim.Native.Nat.{ℕ, _<_}
 use mathlib.Core.Path.{sym, ap, subst}
 use denote.Ref.{now}
-use Rattle.listing.specs.Append.{Room}
-use Rattle.listing.specs.Text.{wordRefused, refusedLine}
+use Rattle.listing.specs.parts.Append.{Room}
+use Rattle.listing.specs.promise.Text.{wordRefused, refusedLine}
 use Rattle.listing.proofs.Appending.{room-as, appended-as}
 use Rattle.listing.proofs.Fields.{worded-first, worded-second, worded-third, worded-all}
 use Rattle.listing.proofs.lines.refused_line.Statement.{statement}

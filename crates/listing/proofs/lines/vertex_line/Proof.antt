@@ -2,7 +2,7 @@
 -- Assumes nothing.
 use borrow.Author.Needs.{needs}
 use native.Mathlib.Omega.{arith}
-use Rattle.listing.specs.Text.{moveField}
+use Rattle.listing.specs.promise.Text.{moveField}
 use Rattle.listing.proofs.Fields.{listed-first, listed-second, listed-third, listed-fourth, listed-fifth, listed-last, listed-all}
 use Rattle.listing.proofs.lines.vertex_line.Statement.{statement}
 use Rattle.listing.proofs.lines.vertex_line.Tie as tie

@@ -7,6 +7,10 @@ use Rattle.listing.proofs.Answers.{answered}
 use Rattle.listing.proofs.list.answer.Statement.{statement}
 use Rattle.listing.proofs.list.answer.Tie as tie
 
+-- the way back from the solver to the entry
+abbrev start : tie.After-solve → tie.Start
+start c = c .before .before .before .before .before .before .before .before .before .before .before .before .before .before .before
+
 add-past : tie.Need-add-past
 add-past c = search needs
 
@@ -57,8 +61,9 @@ same-length-3 c = search needs
 
 returns : tie.Need-returns
 returns c =
-    let s = c .before .before .before .before .before .before .solve in
-    answered _ _ _ _ _ _ _ _ _ (c .before .before .before .before .before .before .before .before .before .before .before .before .before .before .before .before .before .before .before .before .before .pre) (s .last .1 .1 .1 .1 .0) (s .last .1 .1 .1 .1 .1 .0) (s .last .1 .1 .1 .1 .1 .1 .0) (s .result) (s .ensures)
+    let k = c .before .before .before .before .before .before in
+    let l = k .solve .last .1 .1 .1 .1 in
+    answered _ _ _ _ (start k .pre) (record { answer = record { winners = l .0; moves = l .1 .0 }; work = l .1 .1 .0 }) (k .solve .result) (k .solve .ensures)
 
 pub answer-spec : {M : Type 1} → statement M
 answer-spec =

@@ -5,8 +5,11 @@ use Prim.Native.Nat.{ℕ, _<_}
 use mathlib.Core.Path.{refl}
 use native.Mathlib.Omega.{arith}
 use denote.Ref.{now}
-use lib.ListN.{getD}
-use Rattle.listing.proofs.Filing.{read-tabled, read-lists, refused-room, refused-lists}
+use lib.ListN.{getD, replicate}
+use Rattle.game.specs.promise.Tables.{Tables, tablesOf}
+use Rattle.game.specs.promise.Lent.{Fit}
+use Rattle.housefile.specs.promise.Faults.{tableSizes}
+use Rattle.listing.proofs.Filing.{read-tabled, read-set-down, refused-room, refused-set-down}
 use Rattle.listing.proofs.list.list.Statement.{statement}
 use Rattle.listing.proofs.list.list.Tie as tie
 
@@ -19,6 +22,16 @@ read1 c = c .before .before .before .before .before .before
 
 abbrev read2 : tie.After-taken2 → tie.After-read
 read2 c = c .before .before .before .before .before .before
+
+-- the tables as they are lent, of the fixed lengths, and as the reader leaves them
+abbrev zeros : Tables
+zeros = tablesOf (replicate 2048 0) (replicate 2048 0) (replicate 2049 0) (replicate 16384 0)
+
+fit : Fit (tableSizes zeros)
+fit = (refl, (refl, (refl, (refl, tt))))
+
+abbrev after : tie.After-read → Tables
+after c = let l = c .read .last .1 in tablesOf (l .0) (l .1 .0) (l .1 .1 .0) (l .1 .1 .1 .0)
 
 bytes : (c : tie.After-read) (i : ℕ) → getD (now (start c .args .file)) i 0 < 256
 bytes c i = omega (arith, c .before .before .before .before .before .before .shared-slice-known .given i)
@@ -45,7 +58,7 @@ refused-line-requires : tie.Need-refused-line-requires
 refused-line-requires c κs =
     let t = c .before .before in
     let r = read1 t in
-    refused-room _ _ _ _ _ _ _ _ _ (bytes r) _ (r .read .ensures) _ (record { owners-2048 = refl; priorities-2048 = refl; starts-2049 = refl; targets-16384 = refl }) (t .taken .given .1) (start r .pre .0) _ (start r .pre .1)
+    refused-room _ zeros (after r) (bytes r) _ (r .read .ensures) _ fit (t .taken .given .1) (start r .pre .0) _ (start r .pre .1)
 
 enum-known-taken-2 : tie.Need-enum-known-taken-2
 enum-known-taken-2 c = search needs
@@ -65,7 +78,7 @@ slice-aggregate-listed-4 c = search needs
 listed-requires : tie.Need-listed-requires
 listed-requires c κs =
     let t = c .before .before .before .before .before .before in
-    let r = read2 t in (read-tabled _ _ _ _ _ _ _ _ _ (bytes r) _ (r .read .ensures) _ (t .taken2 .given .1), start r .pre .1)
+    let r = read2 t in (read-tabled _ zeros (after r) (bytes r) _ (r .read .ensures) _ (t .taken2 .given .1), start r .pre .1)
 
 same-length : tie.Need-same-length
 same-length c = search needs
@@ -74,7 +87,7 @@ returns : tie.Need-returns
 returns c =
     let t = c .before .before .before .before .before in
     let r = read1 t in
-    refused-lists _ _ _ _ _ _ _ _ _ (bytes r) _ (r .read .ensures) _ (record { owners-2048 = refl; priorities-2048 = refl; starts-2049 = refl; targets-16384 = refl }) (t .taken .given .1) (start r .pre .0) _ (start r .pre .1) (c .before .before .refused-line .ensures)
+    refused-set-down _ zeros (after r) (bytes r) _ (r .read .ensures) _ fit (t .taken .given .1) (start r .pre .0) _ (start r .pre .1) (c .before .before .refused-line .ensures)
 
 same-length-2 : tie.Need-same-length-2
 same-length-2 c = search needs
@@ -83,7 +96,8 @@ returns-2 : tie.Need-returns-2
 returns-2 c =
     let l = c .before .before in
     let t = l .before .before .before .before .before .before .before in
-    let r = read2 t in (l .listed .ensures .0, read-lists _ _ _ _ _ _ _ _ _ (bytes r) _ (r .read .ensures) _ _ (t .taken2 .given .1) (l .listed .ensures .1))
+    let r = read2 t in
+    read-set-down _ zeros (after r) (bytes r) _ (r .read .ensures) _ (t .taken2 .given .1) (l .listed .ensures)
 
 pub list-spec : {M : Type 1} → statement M
 list-spec =

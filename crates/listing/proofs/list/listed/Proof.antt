@@ -26,11 +26,11 @@ slice-aggregate-answer-3 : tie.Need-slice-aggregate-answer-3
 slice-aggregate-answer-3 c = search needs
 
 answer-requires : tie.Need-answer-requires
-answer-requires c κs = solvable _ _ _ _ _ _ (c .before .before .before .before .before .before .before .before .pre .0) refl refl refl
+answer-requires c κs = solvable _ _ _ (c .before .before .before .before .before .before .before .before .pre .0) refl refl refl
 
 game-line-requires : tie.Need-game-line-requires
 game-line-requires c κs =
-    let s = c .before .before .before .before .before .before .before .before .before .before .before .before .before in (game-room _ _ _ _ _ _ (s .pre .0) _ (s .pre .1), n-low _ _ _ _ _ _ (s .pre .0), m-low _ _ _ _ _ _ (s .pre .0))
+    let s = c .before .before .before .before .before .before .before .before .before .before .before .before .before in (game-room _ _ _ (s .pre .0) _ (s .pre .1), n-low _ _ _ (s .pre .0), m-low _ _ _ (s .pre .0))
 
 slice-aggregate-vertex-lines : tie.Need-slice-aggregate-vertex-lines
 slice-aggregate-vertex-lines c = search needs
@@ -41,7 +41,7 @@ slice-aggregate-vertex-lines-2 c = search needs
 vertex-lines-requires : tie.Need-vertex-lines-requires
 vertex-lines-requires c κs =
     let p = start c .pre in
-    let a = solved c .answer .ensures in (listable _ _ _ _ _ _ (p .0) _ _ a, lines-room _ _ _ _ _ _ (p .0) _ _ a (p .1) (first-line c .game-line .ensures))
+    let a = solved c .answer .ensures in (listable _ _ _ (p .0) _ a, lines-room _ _ _ (p .0) _ a (p .1) (first-line c .game-line .ensures))
 
 same-length : tie.Need-same-length
 same-length c = search needs
@@ -50,7 +50,7 @@ returns : tie.Need-returns
 returns c =
     let v = c .before .before .before in
     let p = start v .pre in
-    answer-listed _ _ _ _ _ _ (p .0) _ _ (solved v .answer .ensures) (p .1) (first-line v .game-line .ensures) (c .before .before .vertex-lines .ensures)
+    answer-listed _ _ _ (p .0) _ (solved v .answer .ensures) (p .1) (first-line v .game-line .ensures) (c .before .before .vertex-lines .ensures)
 
 pub listed-spec : {M : Type 1} → statement M
 listed-spec =

@@ -1,7 +1,7 @@
 -- `listing::text::field` meets its contract. The number, then the byte.
 -- Assumes nothing.
 use borrow.Author.Needs.{needs}
-use Rattle.listing.specs.Append.{appended-both, room-first, room-second}
+use Rattle.listing.proofs.Appending.{appended-both, room-first, room-second}
 use Rattle.listing.proofs.text.field.Statement.{statement}
 use Rattle.listing.proofs.text.field.Tie as tie
 

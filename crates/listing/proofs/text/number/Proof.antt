@@ -3,7 +3,7 @@
 use borrow.Author.Needs.{needs}
 use mathlib.Core.Path.{_≡_, sym}
 use lib.ListN.{take}
-use Rattle.listing.specs.Text.{decimalOf}
+use Rattle.listing.specs.promise.Text.{decimalOf}
 use Rattle.listing.proofs.Appending.{room-as, appended-as}
 use Rattle.listing.proofs.Decimals.{spelled}
 use Rattle.listing.proofs.text.number.Statement.{statement}

@@ -8,8 +8,6 @@ use native.Mathlib.Omega.{arith}
 use Rattle.listing.proofs.Appending.{Copied, copied-none, copied-more, copied-all}
 use Rattle.listing.proofs.text.word.Statement.{statement}
 use Rattle.listing.proofs.text.word.Tie as tie
-use Rattle.listing.proofs.text.word.Reads as reads
-use Rattle.listing.proofs.text.word.Lts as lts
 
 abbrev Inv-loop : tie.InvT-loop
 Inv-loop text₀ at word i₀ text i = Copied text₀ at word text i

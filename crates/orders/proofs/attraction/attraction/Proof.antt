@@ -2,6 +2,7 @@
 -- Assumes nothing.
 use native.Mathlib.Omega.{arith}
 use mathlib.Core.Path.{sym, _∙_}
+use Rattle.game.specs.promise.Tables.{tablesOf}
 use Rattle.attract.proofs.Visits.{drawn-same, drawn-more}
 use Rattle.attract.proofs.Sweeps.{Going}
 use Rattle.orders.proofs.Running.{pickable}
@@ -11,7 +12,7 @@ use Rattle.orders.proofs.attraction.attraction.Statement.{statement}
 use Rattle.orders.proofs.attraction.attraction.Tie as tie
 
 abbrev Inv-loop : tie.InvT-loop
-Inv-loop budget owners priorities starts targets heads nexts sources firsts₀ lasts₀ waiting₀ levels₀ stack₀ winners₀ moves₀ work₀ n top₀ left₀ firsts lasts waiting levels stack winners moves work top left = Going budget left 0 owners priorities starts targets heads nexts sources winners₀ moves₀ work₀ firsts lasts waiting levels stack winners moves work
+Inv-loop budget owners priorities starts targets heads nexts sources firsts₀ lasts₀ waiting₀ levels₀ stack₀ winners₀ moves₀ work₀ n top₀ left₀ firsts lasts waiting levels stack winners moves work top left = Going budget left 0 (tablesOf owners priorities starts targets) heads nexts sources winners₀ moves₀ work₀ firsts lasts waiting levels stack winners moves work
 
 abbrev μ-loop : tie.MeasureT-loop
 μ-loop budget owners priorities starts targets heads nexts sources firsts₀ lasts₀ waiting₀ levels₀ stack₀ winners₀ moves₀ work₀ n top₀ left₀ firsts lasts waiting levels stack winners moves work top left = left

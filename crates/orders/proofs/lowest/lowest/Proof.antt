@@ -2,6 +2,7 @@
 -- Assumes nothing.
 use native.Mathlib.Omega.{arith}
 use mathlib.Core.Path.{sym, _∙_}
+use Rattle.game.specs.promise.Tables.{tablesOf}
 use Rattle.step.proofs.Settling.{settlable, by-keeping, by-turning}
 use Rattle.step.proofs.Steps.{turnable}
 use Rattle.step.proofs.Least.{testable, fitting, least-stepped}
@@ -11,7 +12,7 @@ use Rattle.orders.proofs.lowest.lowest.Statement.{statement}
 use Rattle.orders.proofs.lowest.lowest.Tie as tie
 
 abbrev Inv-loop : tie.InvT-loop
-Inv-loop budget owners priorities starts targets heads nexts sources firsts₀ lasts₀ waiting₀ levels₀ winners₀ moves₀ work₀ n low₀ left₀ firsts lasts waiting levels winners moves work low left = Lowering low budget left owners priorities starts targets heads nexts sources winners₀ moves₀ work₀ firsts lasts waiting levels winners moves work
+Inv-loop budget owners priorities starts targets heads nexts sources firsts₀ lasts₀ waiting₀ levels₀ winners₀ moves₀ work₀ n low₀ left₀ firsts lasts waiting levels winners moves work low left = Lowering low budget left (tablesOf owners priorities starts targets) heads nexts sources winners₀ moves₀ work₀ firsts lasts waiting levels winners moves work
 
 abbrev μ-loop : tie.MeasureT-loop
 μ-loop budget owners priorities starts targets heads nexts sources firsts₀ lasts₀ waiting₀ levels₀ winners₀ moves₀ work₀ n low₀ left₀ firsts lasts waiting levels winners moves work low left = left
@@ -53,7 +54,7 @@ returns : tie.Need-returns Inv-loop μ-loop
 returns c = (lowering-all (c .before .before .before .before .before .before .before .before .before .before .before .loop .inv) (c .before .before .before .before .before .before .pick .ensures) (c .enum-told .given .1), tt)
 
 test-requires : tie.Need-test-requires Inv-loop μ-loop
-test-requires c κs = testable _ _ _ _ _ _ _ _ _ _ _ _ _ _ _ (picked-steppable (c .before .before .before .before .before .before .before .before .before .before .before .before .before .loop .inv .moved .engine) (c .before .before .before .before .before .before .before .before .before .before .before .before .before .loop .inv .none-below) (c .before .before .before .before .before .before .before .before .pick .ensures) (c .before .before .picked .given .1))
+test-requires c κs = testable _ _ _ _ _ _ _ _ _ _ _ _ (picked-steppable (c .before .before .before .before .before .before .before .before .before .before .before .before .before .loop .inv .moved .engine) (c .before .before .before .before .before .before .before .before .before .before .before .before .before .loop .inv .none-below) (c .before .before .before .before .before .before .before .before .pick .ensures) (c .before .before .picked .given .1))
 
 shared-slice-read-own : tie.Need-shared-slice-read-own Inv-loop μ-loop
 shared-slice-read-own c =
@@ -69,7 +70,7 @@ of-priority-requires c κs = search needs
 keep-requires : tie.Need-keep-requires Inv-loop μ-loop
 keep-requires c κs =
     let s = (picked-steppable (c .before .before .before .before .before .before .before .before .before .before .before .before .before .before .before .before .before .before .before .before .before .before .loop .inv .moved .engine) (c .before .before .before .before .before .before .before .before .before .before .before .before .before .before .before .before .before .before .before .before .before .before .loop .inv .none-below) (c .before .before .before .before .before .before .before .before .before .before .before .before .before .before .before .before .before .pick .ensures) (c .before .before .before .before .before .before .before .before .before .before .before .picked .given .1)) in
-    settlable (turnable _ _ _ _ _ _ _ _ _ _ _ _ _ _ _ _ _ _ (s .engine) (fitting _ _ _ _ _ _ _ _ _ _ _ _ _ _ _ s (c .before .before .before .before .before .before .before .before .test .ensures .0) (c .before .before .before .before .before .before .before .before .test .ensures .1)))
+    settlable (turnable _ _ _ _ _ _ _ _ _ _ _ _ _ _ _ (s .engine) (fitting _ _ _ _ _ _ _ _ _ _ _ _ s (c .before .before .before .before .before .before .before .before .test .ensures .0) (c .before .before .before .before .before .before .before .before .test .ensures .1)))
 
 cast-low : tie.Need-cast-low Inv-loop μ-loop
 cast-low c =
@@ -82,7 +83,7 @@ loop-less c = omega (arith, c .before .before .before .before .before .before .b
 loop-again : tie.Need-loop-again Inv-loop μ-loop
 loop-again c =
     let s = (picked-steppable (c .before .before .before .before .before .before .before .before .before .before .before .before .before .before .before .before .before .before .before .before .before .before .before .before .before .before .before .before .before .loop .inv .moved .engine) (c .before .before .before .before .before .before .before .before .before .before .before .before .before .before .before .before .before .before .before .before .before .before .before .before .before .before .before .before .before .loop .inv .none-below) (c .before .before .before .before .before .before .before .before .before .before .before .before .before .before .before .before .before .before .before .before .before .before .before .before .pick .ensures) (c .before .before .before .before .before .before .before .before .before .before .before .before .before .before .before .before .before .before .picked .given .1)) in
-    lowering-step (c .before .before .before .before .before .before .before .before .before .before .before .before .before .before .before .before .before .before .before .before .before .before .before .before .before .before .before .before .before .loop .inv) (omega (arith, c .before .before .before .before .before .before .before .before .before .before .before .before .before .before .before .before .before .before .before .before .before .before .before .before .before .before .before .before .loop-test .taken)) (least-stepped _ _ _ _ _ _ _ _ _ _ _ _ _ _ _ s (c .before .before .before .before .before .before .before .before .before .before .before .before .before .before .before .test .ensures .0) (c .before .before .before .before .before .before .before .before .before .before .before .before .before .before .before .test .ensures .1) (by-keeping (turnable _ _ _ _ _ _ _ _ _ _ _ _ _ _ _ _ _ _ (s .engine) (fitting _ _ _ _ _ _ _ _ _ _ _ _ _ _ _ s (c .before .before .before .before .before .before .before .before .before .before .before .before .before .before .before .test .ensures .0) (c .before .before .before .before .before .before .before .before .before .before .before .before .before .before .before .test .ensures .1))) (c .before .before .before .before .before .before .before .before .before .before .if1 .taken ∙ c .before .before .before .before .before .before .before .before .before .before .before .before .before .of-priority .ensures) (c .before .before .before .before .before .before .keep .ensures .0) (c .before .before .before .before .before .before .keep .ensures .1 .0) (c .before .before .before .before .before .before .keep .ensures .1 .1)))
+    lowering-step (c .before .before .before .before .before .before .before .before .before .before .before .before .before .before .before .before .before .before .before .before .before .before .before .before .before .before .before .before .before .loop .inv) (omega (arith, c .before .before .before .before .before .before .before .before .before .before .before .before .before .before .before .before .before .before .before .before .before .before .before .before .before .before .before .before .loop-test .taken)) (least-stepped _ _ _ _ _ _ _ _ _ _ _ _ s (c .before .before .before .before .before .before .before .before .before .before .before .before .before .before .before .test .ensures .0) (c .before .before .before .before .before .before .before .before .before .before .before .before .before .before .before .test .ensures .1) (by-keeping (turnable _ _ _ _ _ _ _ _ _ _ _ _ _ _ _ (s .engine) (fitting _ _ _ _ _ _ _ _ _ _ _ _ s (c .before .before .before .before .before .before .before .before .before .before .before .before .before .before .before .test .ensures .0) (c .before .before .before .before .before .before .before .before .before .before .before .before .before .before .before .test .ensures .1))) (c .before .before .before .before .before .before .before .before .before .before .if1 .taken ∙ c .before .before .before .before .before .before .before .before .before .before .before .before .before .of-priority .ensures) (c .before .before .before .before .before .before .keep .ensures .0) (c .before .before .before .before .before .before .keep .ensures .1 .0) (c .before .before .before .before .before .before .keep .ensures .1 .1)))
 
 cast-turn : tie.Need-cast-turn Inv-loop μ-loop
 cast-turn c =
@@ -92,7 +93,7 @@ cast-turn c =
 turn-requires : tie.Need-turn-requires Inv-loop μ-loop
 turn-requires c κs =
     let s = (picked-steppable (c .before .before .before .before .before .before .before .before .before .before .before .before .before .before .before .before .before .before .before .before .before .before .before .before .before .before .loop .inv .moved .engine) (c .before .before .before .before .before .before .before .before .before .before .before .before .before .before .before .before .before .before .before .before .before .before .before .before .before .before .loop .inv .none-below) (c .before .before .before .before .before .before .before .before .before .before .before .before .before .before .before .before .before .before .before .before .before .pick .ensures) (c .before .before .before .before .before .before .before .before .before .before .before .before .before .before .before .picked .given .1)) in
-    turnable _ _ _ _ _ _ _ _ _ _ _ _ _ _ _ _ _ _ (s .engine) (fitting _ _ _ _ _ _ _ _ _ _ _ _ _ _ _ s (c .before .before .before .before .before .before .before .before .before .before .before .before .test .ensures .0) (c .before .before .before .before .before .before .before .before .before .before .before .before .test .ensures .1))
+    turnable _ _ _ _ _ _ _ _ _ _ _ _ _ _ _ (s .engine) (fitting _ _ _ _ _ _ _ _ _ _ _ _ s (c .before .before .before .before .before .before .before .before .before .before .before .before .test .ensures .0) (c .before .before .before .before .before .before .before .before .before .before .before .before .test .ensures .1))
 
 loop-less-2 : tie.Need-loop-less-2 Inv-loop μ-loop
 loop-less-2 c = omega (arith, c .before .before .before .before .before .before .before .before .before .before .before .before .before .before .before .before .before .before .before .before .before .before .before .before .before .before .before .before .before .before .before .before .before .before .before .before .before .before .before .before .loop-test .taken)
@@ -100,7 +101,7 @@ loop-less-2 c = omega (arith, c .before .before .before .before .before .before 
 loop-again-2 : tie.Need-loop-again-2 Inv-loop μ-loop
 loop-again-2 c =
     let s = (picked-steppable (c .before .before .before .before .before .before .before .before .before .before .before .before .before .before .before .before .before .before .before .before .before .before .before .before .before .before .before .before .before .before .before .before .before .before .before .before .before .before .before .before .before .loop .inv .moved .engine) (c .before .before .before .before .before .before .before .before .before .before .before .before .before .before .before .before .before .before .before .before .before .before .before .before .before .before .before .before .before .before .before .before .before .before .before .before .before .before .before .before .before .loop .inv .none-below) (c .before .before .before .before .before .before .before .before .before .before .before .before .before .before .before .before .before .before .before .before .before .before .before .before .before .before .before .before .before .before .before .before .before .before .before .before .pick .ensures) (c .before .before .before .before .before .before .before .before .before .before .before .before .before .before .before .before .before .before .before .before .before .before .before .before .before .before .before .before .before .before .picked .given .1)) in
-    lowering-step (c .before .before .before .before .before .before .before .before .before .before .before .before .before .before .before .before .before .before .before .before .before .before .before .before .before .before .before .before .before .before .before .before .before .before .before .before .before .before .before .before .before .loop .inv) (omega (arith, c .before .before .before .before .before .before .before .before .before .before .before .before .before .before .before .before .before .before .before .before .before .before .before .before .before .before .before .before .before .before .before .before .before .before .before .before .before .before .before .before .loop-test .taken)) (least-stepped _ _ _ _ _ _ _ _ _ _ _ _ _ _ _ s (c .before .before .before .before .before .before .before .before .before .before .before .before .before .before .before .before .before .before .before .before .before .before .before .before .before .before .before .test .ensures .0) (c .before .before .before .before .before .before .before .before .before .before .before .before .before .before .before .before .before .before .before .before .before .before .before .before .before .before .before .test .ensures .1) (by-turning (λ e. c .before .before .before .before .before .before .before .before .before .before .before .before .before .before .before .before .before .before .before .before .before .before .if1 .left (e ∙ sym (c .before .before .before .before .before .before .before .before .before .before .before .before .before .before .before .before .before .before .before .before .before .before .before .before .before .of-priority .ensures))) (c .before .before .before .before .before .before .before .before .before .before .before .before .before .before .turn .ensures)))
+    lowering-step (c .before .before .before .before .before .before .before .before .before .before .before .before .before .before .before .before .before .before .before .before .before .before .before .before .before .before .before .before .before .before .before .before .before .before .before .before .before .before .before .before .before .loop .inv) (omega (arith, c .before .before .before .before .before .before .before .before .before .before .before .before .before .before .before .before .before .before .before .before .before .before .before .before .before .before .before .before .before .before .before .before .before .before .before .before .before .before .before .before .loop-test .taken)) (least-stepped _ _ _ _ _ _ _ _ _ _ _ _ s (c .before .before .before .before .before .before .before .before .before .before .before .before .before .before .before .before .before .before .before .before .before .before .before .before .before .before .before .test .ensures .0) (c .before .before .before .before .before .before .before .before .before .before .before .before .before .before .before .before .before .before .before .before .before .before .before .before .before .before .before .test .ensures .1) (by-turning (λ e. c .before .before .before .before .before .before .before .before .before .before .before .before .before .before .before .before .before .before .before .before .before .before .if1 .left (e ∙ sym (c .before .before .before .before .before .before .before .before .before .before .before .before .before .before .before .before .before .before .before .before .before .before .before .before .before .of-priority .ensures))) (c .before .before .before .before .before .before .before .before .before .before .before .before .before .before .turn .ensures)))
 
 same-length-8 : tie.Need-same-length-8 Inv-loop μ-loop
 same-length-8 c = c .before .loop .inv .moved .engine .standing .lines .firsts-long ∙ sym (c .before .before .before .before .before .before .before .before .before .before .before .before .before .before .before .before .pre .standing .lines .firsts-long)

@@ -1,4 +1,4 @@
--- `reach::closure::visit` meets its contract. The invariant, `VisitingIn`: marks and queue have grown by starts of allowed steps to w, and the
+-- `reach::closure::visit` meets its contract. The invariant, `VisitingIn`: what is reached and the queue have grown by starts of allowed steps to w, and the
 -- edges into w behind the cursor are done. The measure takes 65,535, the end of the list, for 0.
 -- Assumes nothing.
 use Prim.Native.Nat.{ℕ, _+_, _%_, _<_}

@@ -4,7 +4,7 @@ use Prim.Native.Nat.{_-_, _≤_, _<_}
 use borrow.Author.Needs.{needs}
 use native.Mathlib.Omega.{arith}
 use lib.ListN.{length, getD}
-use Rattle.reach.specs.Build.{Linking}
+use Rattle.reach.specs.parts.Build.{Linking}
 use Rattle.reach.proofs.Links.{linking-none, linking-more, linking-all}
 use Rattle.reach.proofs.lists.link_stretch.Statement.{statement}
 use Rattle.reach.proofs.lists.link_stretch.Tie as tie

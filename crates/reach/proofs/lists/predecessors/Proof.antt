@@ -5,7 +5,7 @@ use Prim.Native.Nat.{_-_}
 use mathlib.Core.Path.{refl, _∙_}
 use borrow.Author.Needs.{needs}
 use Rattle.game.proofs.Starts.{stretch-of}
-use Rattle.reach.specs.Build.{Buildable}
+use Rattle.reach.specs.parts.Build.{Buildable}
 use Rattle.reach.proofs.Builds.{Building, building-none, linkable, building-more, built, refilled, built-from}
 use Rattle.reach.proofs.lists.predecessors.Statement.{statement}
 use Rattle.reach.proofs.lists.predecessors.Tie as tie

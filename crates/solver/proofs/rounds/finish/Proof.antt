@@ -3,11 +3,11 @@
 use native.Mathlib.Omega.{arith}
 use mathlib.Core.Path.{sym, _∙_}
 use lib.ListN.{length}
-use Rattle.game.specs.Tables.{gameOf}
-use Rattle.game.specs.Answer.{markOf}
-use Rattle.justification.specs.Measure.{measure}
-use Rattle.levels.specs.Levels.{settledOf}
-use Rattle.step.specs.Stepping.{Moved}
+use Rattle.game.specs.promise.Tables.{gameOf, tablesOf}
+use Rattle.game.specs.promise.Answer.{markOf}
+use Rattle.justification.specs.parts.Measure.{measure}
+use Rattle.levels.specs.parts.Levels.{settledOf}
+use Rattle.step.specs.parts.Stepping.{Moved}
 use Rattle.step.proofs.Moving.{moved-none, moved-more}
 use Rattle.solver.proofs.Running.{settled-all, ran-done, ran-spent}
 use borrow.Author.Needs.{needs}
@@ -15,10 +15,10 @@ use Rattle.solver.proofs.rounds.finish.Statement.{statement}
 use Rattle.solver.proofs.rounds.finish.Tie as tie
 
 abbrev Inv-loop : tie.InvT-loop
-Inv-loop owners priorities starts targets heads nexts sources firsts₀ lasts₀ waiting₀ levels₀ winners₀ moves₀ work₀ firsts lasts waiting levels winners moves work = Moved owners priorities starts targets heads nexts sources winners₀ moves₀ work₀ firsts lasts waiting levels winners moves work
+Inv-loop owners priorities starts targets heads nexts sources firsts₀ lasts₀ waiting₀ levels₀ winners₀ moves₀ work₀ firsts lasts waiting levels winners moves work = Moved (tablesOf owners priorities starts targets) heads nexts sources winners₀ moves₀ work₀ firsts lasts waiting levels winners moves work
 
 abbrev μ-loop : tie.MeasureT-loop
-μ-loop owners priorities starts targets heads nexts sources firsts₀ lasts₀ waiting₀ levels₀ winners₀ moves₀ work₀ firsts lasts waiting levels winners moves work = measure (gameOf owners priorities starts targets) (markOf winners) (settledOf (length owners) work)
+μ-loop owners priorities starts targets heads nexts sources firsts₀ lasts₀ waiting₀ levels₀ winners₀ moves₀ work₀ firsts lasts waiting levels winners moves work = measure (gameOf (tablesOf owners priorities starts targets)) (markOf winners) (settledOf (length owners) work)
 
 loop-holds : tie.Need-loop-holds Inv-loop μ-loop
 loop-holds c = moved-none (c .before .before .before .before .before .before .before .before .before .before .before .before .before .before .pre)

@@ -3,8 +3,9 @@
 use native.Mathlib.Omega.{arith}
 use Prim.Native.Nat.{_-_}
 use mathlib.Core.Path.{sym, _∙_}
+use Rattle.game.specs.promise.Tables.{tablesOf}
 use Rattle.step.proofs.Moving.{moved-more}
-use Rattle.attract.specs.Drawing.{Drawn}
+use Rattle.attract.specs.parts.Drawing.{Drawn}
 use Rattle.attract.proofs.Visits.{drawn-same}
 use Rattle.solver.proofs.Running.{settled-all, ran-done}
 use Rattle.solver.proofs.Onward.{round-restartable, round-again, settled-after}
@@ -13,7 +14,7 @@ use Rattle.solver.proofs.rounds.run.Statement.{statement}
 use Rattle.solver.proofs.rounds.run.Tie as tie
 
 abbrev Inv-loop : tie.InvT-loop
-Inv-loop owners priorities starts targets heads nexts sources firsts₀ lasts₀ waiting₀ levels₀ stack₀ winners₀ moves₀ work₀ order₀ budget₀ i₀ firsts lasts waiting levels stack winners moves work order budget i = Drawn 0 owners priorities starts targets heads nexts sources winners₀ moves₀ work₀ firsts lasts waiting levels stack winners moves work
+Inv-loop owners priorities starts targets heads nexts sources firsts₀ lasts₀ waiting₀ levels₀ stack₀ winners₀ moves₀ work₀ order₀ budget₀ i₀ firsts lasts waiting levels stack winners moves work order budget i = Drawn 0 (tablesOf owners priorities starts targets) heads nexts sources winners₀ moves₀ work₀ firsts lasts waiting levels stack winners moves work
 
 abbrev μ-loop : tie.MeasureT-loop
 μ-loop owners priorities starts targets heads nexts sources firsts₀ lasts₀ waiting₀ levels₀ stack₀ winners₀ moves₀ work₀ order₀ budget₀ i₀ firsts lasts waiting levels stack winners moves work order budget i = 32 - i

@@ -16,13 +16,13 @@ slice-aggregate-line-up-3 : tie.Need-slice-aggregate-line-up-3
 slice-aggregate-line-up-3 c = search needs
 
 line-up-requires : tie.Need-line-up-requires
-line-up-requires c κs = fillable _ _ _ _ _ _ _ _ _ _ (c .before .before .before .before .before .before .before .before .before .before .before .before .before .before .pre) refl refl refl all-empty all-idle
+line-up-requires c κs = fillable _ _ _ _ _ _ _ (c .before .before .before .before .before .before .before .before .before .before .before .before .before .before .pre) refl refl refl all-empty all-idle
 
 slice-aggregate-by-priority : tie.Need-slice-aggregate-by-priority
 slice-aggregate-by-priority c = search needs
 
 by-priority-requires : tie.Need-by-priority-requires
-by-priority-requires c κs = levels-room _ _ _ _ _ _ _ _ _ _ (c .before .before .before .before .before .before .before .before .before .before .before .before .before .before .before .before .before .before .before .before .before .pre) refl
+by-priority-requires c κs = levels-room _ _ _ _ _ _ _ (c .before .before .before .before .before .before .before .before .before .before .before .before .before .before .before .before .before .before .before .before .before .pre) refl
 
 slice-aggregate-run : tie.Need-slice-aggregate-run
 slice-aggregate-run c = search needs
@@ -40,7 +40,7 @@ slice-aggregate-run-5 : tie.Need-slice-aggregate-run-5
 slice-aggregate-run-5 c = search needs
 
 run-requires : tie.Need-run-requires
-run-requires c κs = runnable _ _ _ _ _ _ _ _ _ _ (c .before .before .before .before .before .before .before .before .before .before .before .before .before .before .before .before .before .before .before .before .before .before .before .before .before .before .before .before .before .before .before .pre) (c .before .before .before .before .before .before .before .before .before .before .before .before .before .before .before .before .line-up .ensures) refl refl refl (c .before .before .before .before .before .before .before .before .before .by-priority .ensures)
+run-requires c κs = runnable _ _ _ _ _ _ _ (c .before .before .before .before .before .before .before .before .before .before .before .before .before .before .before .before .before .before .before .before .before .before .before .before .before .before .before .before .before .before .before .pre) (c .before .before .before .before .before .before .before .before .before .before .before .before .before .before .before .before .line-up .ensures) refl refl refl (c .before .before .before .before .before .before .before .before .before .by-priority .ensures)
 
 same-length : tie.Need-same-length
 same-length c = c .before .before .before .before .before .before .before .before .before .before .before .run .ensures .winners-long
@@ -52,7 +52,7 @@ same-length-3 : tie.Need-same-length-3
 same-length-3 c = c .before .before .before .before .before .before .before .before .before .before .before .run .ensures .work-long ∙ c .before .before .before .before .before .before .before .before .before .before .before .before .before .before .before .before .before .before .before .before .before .before .before .before .before .before .before .before .line-up .ensures .links-only .long
 
 returns : tie.Need-returns
-returns c = settled-from _ _ _ _ _ _ _ _ _ _ (c .before .before .before .before .before .before .before .before .before .before .before .before .before .before .before .before .before .before .before .before .before .before .before .before .before .before .before .before .before .before .before .before .before .before .before .before .before .before .before .before .before .before .before .pre) (c .before .before .before .before .before .before .before .before .before .before .before .before .before .before .before .before .before .before .before .before .before .before .before .before .before .before .before .before .line-up .ensures) (c .before .before .before .before .before .before .before .before .before .before .before .run .ensures)
+returns c = settled-from _ _ _ _ _ _ _ (c .before .before .before .before .before .before .before .before .before .before .before .before .before .before .before .before .before .before .before .before .before .before .before .before .before .before .before .before .before .before .before .before .before .before .before .before .before .before .before .before .before .before .before .pre) (c .before .before .before .before .before .before .before .before .before .before .before .before .before .before .before .before .before .before .before .before .before .before .before .before .before .before .before .before .line-up .ensures) (c .before .before .before .before .before .before .before .before .before .before .before .run .ensures)
 
 pub settle-spec : {M : Type 1} → statement M
 settle-spec =

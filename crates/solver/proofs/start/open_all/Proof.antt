@@ -1,9 +1,9 @@
--- `solver::start::open_all` meets its contract. The invariant, `Opening`: the vertices below v are open, and not marked for a closure.
+-- `solver::start::open_all` meets its contract. The invariant, `Opening`: the vertices below v are open, and not reached by a closure.
 -- Assumes nothing.
 use Prim.Native.Nat.{_-_}
 use native.Mathlib.Omega.{arith}
 use lib.ListN.{length, length-set}
-use Rattle.game.specs.Answer.{markRoom}
+use Rattle.game.specs.promise.Answer.{markRoom}
 use Rattle.solver.proofs.Opening.{Opening, opening-none, opening-more, opening-all}
 use borrow.Author.Needs.{needs}
 use Rattle.solver.proofs.start.open_all.Statement.{statement}

@@ -4,7 +4,7 @@ use Prim.Native.Nat.{_+_, _*_, _-_, _<_}
 use native.Mathlib.Omega.{arith}
 use mathlib.Core.Path.{refl, sym, _∙_}
 use lib.ListN.{getD}
-use Rattle.game.specs.Answer.{markRoom}
+use Rattle.game.specs.promise.Answer.{markRoom}
 use Rattle.reach.proofs.Queues.{tail-bounded}
 use Rattle.step.proofs.Reopens.{Reopening, reopening-none, reopening-vertex, reopening-standable, reopening-more, reopening-all}
 use borrow.Author.Needs.{needs}

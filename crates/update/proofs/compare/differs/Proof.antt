@@ -4,7 +4,7 @@ use Prim.Native.Nat.{ℕ, _<_}
 use mathlib.Core.Path.{sym, subst, _∙_}
 use borrow.Author.Needs.{needs}
 use Rattle.game.proofs.Starts.{stretch-of}
-use Rattle.update.specs.Amended.{owner, priority, successors}
+use Rattle.update.specs.promise.Amended.{owner, priority, successors}
 use Rattle.checker.proofs.Says.{says-yes, says-no}
 use Rattle.update.proofs.Differing.{same-of}
 use Rattle.update.proofs.compare.differs.Statement.{statement}

@@ -5,17 +5,17 @@ use mathlib.Core.Path.{_≡_, refl, _∙_}
 use native.Mathlib.Omega.{arith}
 use borrow.Author.Needs.{needs}
 use lib.ListN.{length}
-use Rattle.update.specs.Deciding.{Prepared}
+use Rattle.update.specs.parts.Deciding.{Prepared}
 use Rattle.update.proofs.Preparing.{prepared-none, prepared-more, prepared-all}
 use Rattle.update.proofs.deciding.prepare.Statement.{statement}
 use Rattle.update.proofs.deciding.prepare.Tie as tie
 
 abbrev Inv-loop : tie.InvT-loop
-Inv-loop n priorities old-winners old-moves marks winners₀ moves₀ work₀ v₀ winners moves work v =
-    (v ≤ n) × (length winners ≡ length winners₀) × Prepared n priorities old-winners old-moves marks winners moves work v
+Inv-loop n priorities old-winners old-moves reached winners₀ moves₀ work₀ v₀ winners moves work v =
+    (v ≤ n) × (length winners ≡ length winners₀) × Prepared n priorities old-winners old-moves reached winners moves work v
 
 abbrev μ-loop : tie.MeasureT-loop
-μ-loop n priorities old-winners old-moves marks winners₀ moves₀ work₀ v₀ winners moves work v = n - v
+μ-loop n priorities old-winners old-moves reached winners₀ moves₀ work₀ v₀ winners moves work v = n - v
 
 abbrev entry : tie.After-slice-known3 Inv-loop μ-loop → tie.Start Inv-loop μ-loop
 entry c = c .before .before .before .before .before .before .before
@@ -31,17 +31,17 @@ start-mark-requires : tie.Need-start-mark-requires Inv-loop μ-loop
 start-mark-requires c κs =
     let p = entry (c .before .before .before) .pre in
     let l = c .before .loop-test .taken in
-    (omega (arith, p .priorities-long), omega (arith, p .old-winners-room), omega (arith, p .marks-room))
+    (omega (arith, p .priorities-long), omega (arith, p .old-winners-room), omega (arith, p .reached-room))
 
 set-mark-requires : tie.Need-set-mark-requires Inv-loop μ-loop
 set-mark-requires c κs = omega (arith, c .before .before .before .loop .inv .2 .winners-room)
 
-start-move-requires : tie.Need-start-move-requires Inv-loop μ-loop
-start-move-requires c κs =
+recorded-requires : tie.Need-recorded-requires Inv-loop μ-loop
+recorded-requires c κs =
     let i = c .before .before .before .before .before .before in
     let p = entry (i .before .before) .pre in
     let l = i .loop-test .taken in
-    (omega (arith, p .old-moves-long), omega (arith, p .marks-room))
+    omega (arith, p .old-moves-long)
 
 record-move-requires : tie.Need-record-move-requires Inv-loop μ-loop
 record-move-requires c κs = omega (arith, c .before .before .before .before .before .before .before .before .loop .inv .2 .moves-long)
@@ -70,7 +70,7 @@ loop-again c =
     let marked = moved .before .before .before .before .before in (
       search needs,
       marked .set-mark .kept .0 ∙ turn c .before .loop .inv .1,
-      prepared-more (turn c .before .loop .inv .2) (turn c .loop-test .taken) (marked .before .start-mark .ensures) (marked .set-mark .ensures) (moved .before .start-move .ensures) (moved .record-move .ensures) refl,
+      prepared-more (turn c .before .loop .inv .2) (turn c .loop-test .taken) (marked .before .start-mark .ensures) (marked .set-mark .ensures) (moved .before .recorded .ensures) (moved .record-move .ensures) refl,
     )
 
 same-length : tie.Need-same-length Inv-loop μ-loop
@@ -94,7 +94,7 @@ prepare-spec =
     loop-holds
     start-mark-requires
     set-mark-requires
-    start-move-requires
+    recorded-requires
     record-move-requires
     shared-slice-read-work
     cast-work

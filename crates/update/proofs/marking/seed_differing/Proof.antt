@@ -4,9 +4,9 @@ use Prim.Native.Nat.{_≤_, _-_}
 use mathlib.Core.Logic.{⊎-elim}
 use native.Mathlib.Omega.{arith}
 use borrow.Author.Needs.{needs}
-use Rattle.game.specs.Tables.{gameOf}
-use Rattle.update.specs.Amended.{Differs}
-use Rattle.update.specs.Marking.{Seeding}
+use Rattle.game.specs.promise.Tables.{gameOf, tablesOf}
+use Rattle.update.specs.promise.Amended.{Differs}
+use Rattle.update.specs.parts.Marking.{Seeding}
 use Rattle.update.proofs.Seeds.{seeding-none, seeding-one, seeding-skip, seeding-asks, seeding-all}
 use Rattle.update.proofs.marking.seed_differing.Statement.{statement}
 use Rattle.update.proofs.marking.seed_differing.Tie as tie
@@ -14,7 +14,7 @@ use Rattle.update.proofs.marking.seed_differing.Tie as tie
 abbrev Inv-loop : tie.InvT-loop
 Inv-loop owners priorities starts targets owners2 priorities2 starts2 targets2 work₀ n tail₀ v₀ work tail v =
     (v ≤ n) ×
-    Seeding (Differs (gameOf owners priorities starts targets) (gameOf owners2 priorities2 starts2 targets2)) n work₀ work tail v
+    Seeding (Differs (gameOf (tablesOf owners priorities starts targets)) (gameOf (tablesOf owners2 priorities2 starts2 targets2))) n work₀ work tail v
 
 abbrev μ-loop : tie.MeasureT-loop
 μ-loop owners priorities starts targets owners2 priorities2 starts2 targets2 work₀ n tail₀ v₀ work tail v = n - v

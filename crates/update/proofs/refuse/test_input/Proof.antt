@@ -1,28 +1,31 @@
--- `update::refuse::test_input` meets its contract. The first game's rows, the second's, the sizes, the lengths: each that is passed applies nowhere, and the
--- one that is given applies first (Refusals).
+-- `update::refuse::test_input` meets its contract. The first game's rows, the second's, the sizes, the lengths: each joins what was said so far (Rows).
 -- Assumes nothing.
-use borrow.Author.Needs.{needs}
-use denote.Ref.{now}
-use Rattle.refusal.specs.Row.{None}
-use Rattle.game.specs.Faults.{tableRows}
-use Rattle.game.proofs.Said.{tables-passed}
+use Rattle.refusal.specs.promise.Row.{None}
+use Rattle.refusal.proofs.Rows.{so-far, also, later, passed, none-of, none-append, first-left, tested-refused}
+use Rattle.game.specs.promise.Faults.{tableRows}
+use Rattle.game.specs.promise.Lent.{Lent, Fault8, asked, claim, buffers}
 use Rattle.game.proofs.Sizes.{fitting-of-none}
-use Rattle.update.proofs.Refusals.{fails-first, fails-second, fails-9, fails-8, passes}
+use Rattle.update.specs.promise.Updating.{Input, inputOf, Fault9, secondRows}
+use Rattle.update.proofs.Rows.{games, sizes, none-second, refused-second}
+use borrow.Author.Needs.{needs}
 use Rattle.update.proofs.refuse.test_input.Statement.{statement}
 use Rattle.update.proofs.refuse.test_input.Tie as tie
 
--- the rows of a game that has passed, and the way back to the first game's
-abbrev start1 : tie.After-enum-told → tie.Start
-start1 c = c .before .before .before .before .before .before .before .before .before .before .before .before .before .before .before .before
+-- what is handed in and lent
+abbrev input : tie.Start → Input
+input c =
+    let a = c .args in
+    inputOf (asked (a .owners) (a .priorities) (a .starts) (a .targets)) (asked (a .owners2) (a .priorities2) (a .starts2) (a .targets2)) (claim (a .old-winners) (a .old-moves))
 
-none1 : (c : tie.After-enum-told) → None (tableRows (now (start1 c .args .owners)) (now (start1 c .args .priorities)) (now (start1 c .args .starts)) (now (start1 c .args .targets)))
-none1 c = tables-passed _ (c .enum-told .given .1) (c .before .before .test-tables .ensures)
+abbrev lent : tie.Start → Lent
+lent c = let a = c .args in buffers (a .winners) (a .moves) (a .work)
 
-abbrev second-of : tie.After-enum-told2 → tie.After-enum-told
-second-of c = c .before .before .before
+-- the rows of a game that has passed
+none1 : (c : tie.After-enum-told) → None (tableRows (input (c .before .before .before .before .before .before .before .before .before .before .before .before .before .before .before .before) .first))
+none1 c = passed (c .enum-told .given .1) (record { gives = c .before .before .test-tables .ensures })
 
-none2 : (c : tie.After-enum-told2) → None (tableRows (now (start1 (second-of c) .args .owners2)) (now (start1 (second-of c) .args .priorities2)) (now (start1 (second-of c) .args .starts2)) (now (start1 (second-of c) .args .targets2)))
-none2 c = tables-passed _ (c .enum-told2 .given .1) (c .before .before .test-tables2 .ensures)
+none2 : (c : tie.After-enum-told2) → None (tableRows (input (c .before .before .before .before .before .before .before .before .before .before .before .before .before .before .before .before .before .before .before) .second))
+none2 c = passed (c .enum-told2 .given .1) (record { gives = c .before .before .test-tables2 .ensures })
 
 test-tables-requires : tie.Need-test-tables-requires
 test-tables-requires c κs = search needs
@@ -31,7 +34,10 @@ enum-known-first : tie.Need-enum-known-first
 enum-known-first c = search needs
 
 returns : tie.Need-returns
-returns c = fails-first _ (c .before .first .given .1) (c .before .before .before .test-tables .ensures)
+returns c =
+    let s = c .before .before .before .before .before .before .before .before .before .before .before .before .before .before .before .before .before in
+    let f = tested-refused (tableRows (input s .first)) (c .before .first .given .1) (c .before .before .before .test-tables .ensures) in
+    first-left (games (input s) (lent s)) (sizes (input s) (lent s)) _ _ (first-left (tableRows (input s .first)) (secondRows (tableRows (input s .second))) _ _ f)
 
 enum-told : tie.Need-enum-told
 enum-told c = search needs
@@ -45,42 +51,38 @@ enum-known-amended c = search needs
 second-requires : tie.Need-second-requires
 second-requires c κs = search needs
 
-refused-requires : tie.Need-refused-requires
-refused-requires c κs = search needs
-
 returns-2 : tie.Need-returns-2
-returns-2 c = fails-second _ (none1 (c .before .before .before .before .before .before)) (c .before .before .before .amended .given .1) (c .before .before .before .before .before .test-tables2 .ensures) (c .before .second .ensures) (c .refused .ensures)
+returns-2 c =
+    let s = c .before .before .before .before .before .before .before .before .before .before .before .before .before .before .before .before .before .before .before .before .before in
+    refused-second (input s) (lent s) (none1 (c .before .before .before .before .before)) (c .second .ensures) (tested-refused (tableRows (input s .second)) (c .before .before .amended .given .1) (c .before .before .before .before .test-tables2 .ensures))
 
 enum-told-2 : tie.Need-enum-told-2
 enum-told-2 c = search needs
 
-refused-requires-2 : tie.Need-refused-requires-2
-refused-requires-2 c κs = search needs
+same-size-requires : tie.Need-same-size-requires
+same-size-requires c κs = search needs
+
+or-requires : tie.Need-or-requires
+or-requires c κs = search needs
+
+lengths-requires : tie.Need-lengths-requires
+lengths-requires c κs = fitting-of-none _ (none-of 1 (tableRows _) (none1 (c .before .before .before .before .before))) .few
+
+compare-requires : tie.Need-compare-requires
+compare-requires c κs = search needs
+
+compare-requires-2 : tie.Need-compare-requires-2
+compare-requires-2 c κs = search needs
+
+or-requires-2 : tie.Need-or-requires-2
+or-requires-2 c κs = search needs
 
 returns-3 : tie.Need-returns-3
-returns-3 c = fails-9 _ (none1 (second-of (c .before .before))) (none2 (c .before .before)) (c .before .if1 .taken) (c .refused2 .ensures)
-
-lent-lengths-requires : tie.Need-lent-lengths-requires
-lent-lengths-requires c κs = fitting-of-none _ _ _ _ (none1 (second-of (c .before)) .0) .few
-
-enum-known-lent : tie.Need-enum-known-lent
-enum-known-lent c = search needs
-
-refused-requires-3 : tie.Need-refused-requires-3
-refused-requires-3 c κs = search needs
-
-returns-4 : tie.Need-returns-4
-returns-4 c =
-    let e = c .before .before .before .before .before in
-    fails-8 _ (none1 (second-of (e .before))) (none2 (e .before)) (e .if1 .left) (c .before .before .lent .given .1) (c .before .before .before .before .lent-lengths .ensures) (c .refused3 .ensures)
-
-enum-told-3 : tie.Need-enum-told-3
-enum-told-3 c = search needs
-
-returns-5 : tie.Need-returns-5
-returns-5 c =
-    let e = c .before .before .before in
-    passes _ (none1 (second-of (e .before))) (none2 (e .before)) (e .if1 .left) (c .enum-told3 .given .1) (c .before .before .lent-lengths .ensures)
+returns-3 c =
+    let s = c .before .before .before .before .before .before .before .before .before .before .before .before .before .before .before .before .before .before .before .before .before .before .before .before .before in
+    let nine = also (Fault9 _ _) (c .before .before .before .before .or .ensures) so-far (c .before .before .before .before .before .same-size .ensures) in
+    let eight = c .before .compare2 .ensures .joins _ (c .before .before .compare .ensures .joins _ (c .before .before .before .lengths .ensures)) in
+    later (games (input s) (lent s)) (none-append (tableRows (input s .first)) (secondRows (tableRows (input s .second))) (none1 (c .before .before .before .before .before .before .before .before .before)) (none-second (tableRows (input s .second)) (none2 (c .before .before .before .before .before .before)))) (also (Fault8 _) (c .or2 .ensures) nine eight) .gives
 
 pub test-input-spec : {M : Type 1} → statement M
 test-input-spec =
@@ -93,14 +95,12 @@ test-input-spec =
     test-tables-requires-2
     enum-known-amended
     second-requires
-    refused-requires
     returns-2
     enum-told-2
-    refused-requires-2
-    returns-3
-    lent-lengths-requires
-    enum-known-lent
-    refused-requires-3
-    returns-4
-    enum-told-3
-    returns-5)
+    same-size-requires
+    or-requires
+    lengths-requires
+    compare-requires
+    compare-requires-2
+    or-requires-2
+    returns-3)

@@ -1,0 +1,4 @@
+pub mod Pile
+pub mod Offering
+pub mod Drawing
+pub mod Gathering

@@ -1,0 +1,3 @@
+pub mod Games
+pub mod Table
+pub mod ShutOut

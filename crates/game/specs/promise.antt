@@ -1,0 +1,5 @@
+pub mod Game
+pub mod Tables
+pub mod Faults
+pub mod Answer
+pub mod Lent

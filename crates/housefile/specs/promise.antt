@@ -1,0 +1,4 @@
+pub mod Format
+pub mod Filed
+pub mod Faults
+pub mod Reading

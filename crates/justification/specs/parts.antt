@@ -1,0 +1,4 @@
+pub mod Safe
+pub mod Step
+pub mod Measure
+pub mod Start

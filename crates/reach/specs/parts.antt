@@ -1,0 +1,5 @@
+pub mod Lists
+pub mod Closure
+pub mod Build
+pub mod Work
+pub mod Queue

@@ -1,0 +1,29 @@
+-- What `settle`, the engine, asks and gives: from any safe start to an accepted answer that changes no line of a kept set.
+use Prim.Native.Nat.{ℕ, _<_}
+use mathlib.Core.Path.{_≡_}
+use mathlib.Core.List.{List}
+use lib.ListN.{length, getD}
+use Rattle.game.specs.promise.Tables.{gameOf, Tables, vertices}
+use Rattle.game.specs.promise.Answer.{markOf, moveOf}
+use Rattle.winning.specs.promise.Faults.{Accepted}
+use Rattle.reach.specs.parts.Lists.{Preds, EdgesOf}
+use Rattle.step.specs.parts.State.{State, KeptSet}
+
+-- a safe state, and the predecessor lists of the game
+pub record Settleable (tables : Tables) (heads nexts sources winners moves work : List ℕ) : Type 0 where
+  pub state : State tables winners moves work
+  pub preds : Preds (vertices tables) (tables .targets) heads nexts sources
+  pub edges : EdgesOf (vertices tables) (tables .starts) (tables .targets) sources
+
+-- no line of a set of settled vertices whose successors are all in it changes
+pub record Unmoved (tables : Tables) (winners moves work winners′ moves′ : List ℕ) : Type 0 where
+  pub mark : (kept : List ℕ) → KeptSet tables work kept → (v : ℕ) → v < vertices tables → getD kept v 0 ≡ 1 → markOf winners′ v ≡ markOf winners v
+  pub move : (kept : List ℕ) → KeptSet tables work kept → (v : ℕ) → v < vertices tables → getD kept v 0 ≡ 1 → moveOf moves′ v ≡ moveOf moves v
+
+-- an accepted answer that moves no such line
+pub record SettledTo (tables : Tables) (winners moves work winners′ moves′ work′ : List ℕ) : Type 0 where
+  pub winners-long : length winners′ ≡ length winners
+  pub moves-long : length moves′ ≡ length moves
+  pub work-long : length work′ ≡ length work
+  pub accepted : Accepted (gameOf tables) (markOf winners′) (moveOf moves′)
+  pub unmoved : Unmoved tables winners moves work winners′ moves′

@@ -1,0 +1,4 @@
+pub mod State
+pub mod Stepping
+pub mod Parts
+pub mod Turning

@@ -1,0 +1,67 @@
+-- What preparing the engine's start and deciding anew ask and give. All lists are the second game's but the old answer; reached tell what is decided anew.
+use Prim.Native.Nat.{ℕ, _*_, _<_, _≤_}
+use mathlib.Core.Path.{_≡_}
+use mathlib.Core.Logic.{_≢_}
+use mathlib.Core.List.{List}
+use lib.ListN.{length, getD}
+use Rattle.player.specs.promise.Player.{parityOf}
+use Rattle.game.specs.promise.Game.{Game, Edge}
+use Rattle.game.specs.promise.Tables.{gameOf, WellFormed, Tables, vertices}
+use Rattle.game.specs.promise.Answer.{markRoom, markOf, moveOf}
+use Rattle.game.specs.promise.Lent.{Zeroed}
+use Rattle.winning.specs.promise.Faults.{Accepted}
+use Rattle.justification.specs.parts.Start.{SameAt}
+use Rattle.reach.specs.parts.Work.{section}
+use Rattle.reach.specs.parts.Lists.{Filled, Preds, EdgesOf}
+
+-- r is the old value where the mark is 0, else the fresh one
+pub record Chosen (mark old fresh r : ℕ) : Type 0 where
+  pub kept : mark ≡ 0 → r ≡ old
+  pub anew : mark ≢ 0 → r ≡ fresh
+
+-- lists of n vertices' lines, old and new, with reached for them and a work space all zero
+pub record Preparable (n : ℕ) (priorities old-winners old-moves reached winners moves work : List ℕ) : Type 0 where
+  pub priorities-long : length priorities ≡ n
+  pub old-winners-room : markRoom old-winners ≡ n
+  pub old-moves-long : length old-moves ≡ n
+  pub reached-room : n ≤ length reached
+  pub winners-room : markRoom winners ≡ n
+  pub moves-long : length moves ≡ n
+  pub work-long : length work ≡ 4 * n
+  pub blank : Filled work 0
+
+-- the lines below v: the old winner where the mark is 0, else the own parity; the old move; the flags, in section 0 of the work space, are the reached
+pub record Prepared (n : ℕ) (priorities old-winners old-moves reached winners moves work : List ℕ) (v : ℕ) : Type 0 where
+  pub winner : (u : ℕ) → u < v → Chosen (getD reached u 0) (markOf old-winners u) (parityOf (getD priorities u 0)) (markOf winners u)
+  pub move : (u : ℕ) → u < v → moveOf moves u ≡ moveOf old-moves u
+  pub flag : (u : ℕ) → u < v → getD (section 0 n work) u 0 ≡ getD reached u 0
+  pub unreached : Filled (section 1 n work) 0
+  pub winners-room : markRoom winners ≡ n
+  pub moves-long : length moves ≡ n
+  pub work-long : length work ≡ 4 * n
+
+module _ (tables : Tables) (old-winners old-moves reached : List ℕ) where
+  -- the old answer is accepted for a game of as many vertices that agrees with this one where the mark is 0, and no edge leads from there to another mark
+  pub record OldKept : Type 0 where
+    pub first : Game
+    pub size : first .n ≡ vertices tables
+    pub accepted : Accepted first (markOf old-winners) (moveOf old-moves)
+    pub agree : (v : ℕ) → v < vertices tables → getD reached v 0 ≡ 0 → SameAt first (gameOf tables) v
+    pub closed : (v w : ℕ) → getD reached v 0 ≡ 0 → Edge (gameOf tables) v w → getD reached w 0 ≡ 0
+
+  -- what deciding asks
+  pub record Decidable (heads nexts sources winners moves work : List ℕ) : Type 0 where
+    pub well-formed : WellFormed tables
+    pub preds : Preds (vertices tables) (tables .targets) heads nexts sources
+    pub edges : EdgesOf (vertices tables) (tables .starts) (tables .targets) sources
+    pub preparable : Preparable (vertices tables) (tables .priorities) old-winners old-moves reached winners moves work
+    pub kept : OldKept
+
+  -- what it gives: an accepted answer with the old lines where the mark is 0
+  pub record DecidedAnew (winners moves work winners′ moves′ work′ : List ℕ) : Type 0 where
+    pub winners-long : length winners′ ≡ length winners
+    pub moves-long : length moves′ ≡ length moves
+    pub accepted : Accepted (gameOf tables) (markOf winners′) (moveOf moves′)
+    pub kept-mark : (v : ℕ) → v < vertices tables → getD reached v 0 ≡ 0 → markOf winners′ v ≡ markOf old-winners v
+    pub kept-move : (v : ℕ) → v < vertices tables → getD reached v 0 ≡ 0 → moveOf moves′ v ≡ moveOf old-moves v
+    pub zeroed : Zeroed work work′

@@ -1,0 +1,24 @@
+-- What the part after the tests asks, what the part after acceptance asks and gives.
+use Prim.Native.Nat.{ℕ, _<_}
+use Rattle.game.specs.promise.Tables.{vertices, gameOf}
+use Rattle.game.specs.promise.Answer.{markOf, moveOf}
+use Rattle.game.specs.promise.Lent.{Lent, Fit}
+use Rattle.winning.specs.promise.Faults.{Accepted}
+use Rattle.solver.specs.promise.Solving.{Written}
+use Rattle.reach.specs.parts.Lists.{Filled}
+use Rattle.update.specs.promise.Amended.{CountOf}
+use Rattle.update.specs.promise.Updating.{Input, updateSizes, Redone, OldLine}
+use Rattle.update.specs.parts.Marking.{Paired}
+
+-- the games and buffers have passed every test, the old answer is accepted, the work space is all zero
+pub record Redoable (i : Input) (lent : Lent) : Type 0 where
+  pub paired : Paired (i .first) (i .second)
+  pub fit : Fit (updateSizes i lent)
+  pub accepted : Accepted (gameOf (i .first)) (markOf (i .old .winners)) (moveOf (i .old .moves))
+  pub blank : Filled (lent .work) 0
+
+-- the number of vertices that the amendment reaches, and a solution in which the others have their old lines
+pub record RedoneTo (i : Input) (before after : Lent) (count : ℕ) : Type 0 where
+  pub counted : CountOf (Redone i) (vertices (i .first)) count
+  pub written : Written (i .second) before after
+  pub kept : (v : ℕ) → v < vertices (i .first) → ¬ Redone i v → OldLine (i .old) (after .answer) v

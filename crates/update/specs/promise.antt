@@ -1,0 +1,2 @@
+pub mod Amended
+pub mod Updating

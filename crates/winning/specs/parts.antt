@@ -1,0 +1,2 @@
+pub mod Low
+pub mod Verdict
