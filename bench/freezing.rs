@@ -1,4 +1,4 @@
-//! The method of source document 000 as 01 sketches it: estimates, passes over the priorities,
+//! The freezing method of the literature: estimates, passes over the priorities,
 //! freezing.
 
 use crate::game::{parity, Answer, Tables, NO_MOVE};

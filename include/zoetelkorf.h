@@ -5,8 +5,8 @@
  *
  * The result is 0 on success, else the number of the refusal; *value receives the refusal's place, or on success what is said below.
  * A refusal leaves every lent list unchanged, except that 11 to 14 leave the work space all zero; after success it is all zero.
- * Stack of a call that succeeds, in bytes, as bench/stack measures it: zoetelkorf_check 70,056, zoetelkorf_solve 84,237,
- * zoetelkorf_update 141,960, zoetelkorf_read 216. Nothing proves these figures.
+ * Stack of a call that succeeds, in bytes, as bench/stack measures it: zoetelkorf_check 70,136, zoetelkorf_solve 84,157,
+ * zoetelkorf_update 141,976, zoetelkorf_read 190. Nothing proves these figures.
  * A solve or an update ends on every game, but no bound on its time is proved: see README, 'How slow a small game can be'.
  * With n the length of owners: priorities n, starts n + 1, winners n, moves n, work 4 * n.
  */

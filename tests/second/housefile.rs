@@ -159,7 +159,7 @@ fn payloads(file: &[u8], first: usize, count: usize) -> Vec<u8> {
         .collect()
 }
 
-/// 45, then 2, 3, 5, 6, 7 on the values as filed.
+/// The rows on values, in their order.
 fn judge_values(n: usize, vertices: &[u8], targets: &[u16]) -> Result<(), Fault> {
     let counts: Vec<usize> = (0..n).map(|v| number_at(vertices, 4 * v + 2)).collect();
     refuse(45, 0, counts.iter().sum::<usize>() != targets.len())?;

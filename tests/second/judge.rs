@@ -1,4 +1,4 @@
-//! What each call must say, by 01's words: for every number of refusal the places at fault, the
+//! What each call must say, by the rules: for every number of refusal the places at fault, the
 //! first number in order that has one, its lowest place. Nothing here is meant to be fast or
 //! clever.
 

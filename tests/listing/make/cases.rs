@@ -4,7 +4,7 @@ use crate::game::{Tables, Vertex};
 use crate::housefile::Filing;
 use crate::Pair;
 
-/// 01's game A: owner, priority, successors.
+/// Game A of docs/RULES.md: owner, priority, successors.
 pub fn game_a() -> Vec<Vertex> {
     vec![
         Vertex::new(0, 0, &[1, 2]),
@@ -19,7 +19,7 @@ pub fn file(vertices: &[Vertex], rule: u8) -> Vec<u8> {
     Filing::of(&Tables::of(vertices), rule).bytes()
 }
 
-/// As 01 prints it.
+/// The listing of A.
 pub fn a() -> Pair {
     Pair::by_hand("A", file(&game_a(), 0), "game 4 5\n0 0 0 0 2\n1 1 1 0 -\n2 0 2 0 0\n3 1 3 1 3\n")
 }

@@ -90,7 +90,7 @@ fn sizes_and_values() -> Vec<Pair> {
     ]
 }
 
-/// Several faults in one file: the first in 01's order is given.
+/// Several faults in one file: the first in the reader's order is given.
 fn several() -> Vec<Pair> {
     let mut kind_then_check = sealed(&[(BLOCK + 2, 3)]);
     kind_then_check[2 * BLOCK + 6] ^= 1;

@@ -1,10 +1,10 @@
-//! The listing of a file by 01's words, from the second program's reader and solver.
+//! The listing of a file by the rules, from the second program's reader and solver.
 
 use crate::game::{Answer, Tables, NO_MOVE};
 use crate::{housefile, judge, zielonka};
 use std::fmt::Write;
 
-/// "at most its first 43,520 bytes (85 blocks)"
+/// What is read at most: one block more than the largest file has.
 const LIMIT: usize = 43_520;
 
 /// Far more choices than any game here has, and few enough to be tried.

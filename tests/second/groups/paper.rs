@@ -1,4 +1,4 @@
-//! 01's own cases, word for word.
+//! The cases of the rules' own section on small games.
 
 use crate::compare::{self, Amendment};
 use crate::game::{Answer, Tables, Vertex, NO_MOVE};
