@@ -26,7 +26,7 @@ pub enum Verdict {
 }
 
 // The verdict for what the tests say.
-fn given(said: Tested) -> Verdict
+fn as_verdict(said: Tested) -> Verdict
     ensures { λ r. ⌜ verdictSaid r ≡ testedSaid said ⌝ }
 {
     match said {
@@ -59,7 +59,7 @@ pub fn judge(
         return Verdict::Refused(r);
     }
     let lost = lost_cycle(owners, priorities, starts, targets, winners, moves, work);
-    given(or(three, lost, Kind::Claim(AnswerFault::Cycle)))
+    as_verdict(or(three, lost, Kind::Claim(AnswerFault::Cycle)))
 }
 
 // Whether the answer is right for the game: the first of 1 to 8 and 11 to 14 that applies, or acceptance.

@@ -1,8 +1,8 @@
 -- What has passed 1 to 8: well-formed tables, and lists as long as they should be; and the other way round.
 use Prim.Native.Nat.{ℕ, _<_}
 use lib.ListN.{getD}
-use mathlib.Core.List.{[], _∷_}
-use Rattle.refusal.specs.promise.Row.{None, row}
+use mathlib.Core.List.{List, [], _∷_}
+use Rattle.refusal.specs.promise.Row.{Row, row, None}
 use Rattle.refusal.proofs.Rows.{none-left, none-right, none-append}
 use Rattle.game.specs.promise.Tables.{Tables, vertices, WellFormed}
 use Rattle.game.specs.promise.Faults.{tableRows}
@@ -11,11 +11,15 @@ use Rattle.game.proofs.Sizes.{fit-of-none, none-of-fit}
 use Rattle.game.proofs.WellFormed.{well-formed, none-applies}
 
 module _ (t : Tables) (winners moves work : ℕ) where
+  -- the row that follows the tables'
+  abbrev eight : List Row
+  eight = row 8 (Fault8 (lentSizes (vertices t) winners moves work)) ∷ []
+
   pub lent-formed : ((v : ℕ) → getD (t .priorities) v 0 < 256) → None (lentRows t winners moves work) → WellFormed t
-  lent-formed bytes n = well-formed t bytes (none-left (tableRows t) (row 8 (Fault8 (lentSizes (vertices t) winners moves work)) ∷ []) n)
+  lent-formed bytes n = well-formed t bytes (none-left (tableRows t) eight n)
 
   pub lent-fit : None (lentRows t winners moves work) → Fit (lentSizes (vertices t) winners moves work)
-  lent-fit n = fit-of-none _ (none-right (tableRows t) (row 8 (Fault8 (lentSizes (vertices t) winners moves work)) ∷ []) n .0)
+  lent-fit n = fit-of-none _ (none-right (tableRows t) eight n .0)
 
   pub lent-fits : WellFormed t → Fit (lentSizes (vertices t) winners moves work) → None (lentRows t winners moves work)
-  lent-fits w f = none-append (tableRows t) (row 8 (Fault8 (lentSizes (vertices t) winners moves work)) ∷ []) (none-applies t w) (none-of-fit _ f, tt)
+  lent-fits w f = none-append (tableRows t) eight (none-applies t w) (none-of-fit _ f, tt)

@@ -68,12 +68,6 @@ first-front [] more k x n f = absurd (first-not-none more k x f n)
 first-front (r ∷ rows) more k x n (inl here) = inl here
 first-front (r ∷ rows) more k x n (inr later) = inr (later .0, first-front rows more k x n (later .1))
 
--- rows at the end exchanged for others that refuse alike
-pub first-after : (rows more fewer : List Row) (k x : ℕ) → (First more k x → First fewer k x) → First (rows ++ more) k x → First (rows ++ fewer) k x
-first-after [] more fewer k x f a = f a
-first-after (r ∷ rows) more fewer k x f (inl here) = inl here
-first-after (r ∷ rows) more fewer k x f (inr later) = inr (later .0, first-after rows more fewer k x f (later .1))
-
 pub none-left : (rows more : List Row) → None (rows ++ more) → None rows
 none-left [] more n = tt
 none-left (r ∷ rows) more n = (n .0, none-left rows more (n .1))

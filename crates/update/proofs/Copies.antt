@@ -1,4 +1,4 @@
--- Copying the closure's reached: one cell more at each vertex.
+-- Copying what the closure has reached: one cell more at each vertex.
 use Prim.Native.Nat.{ℕ, _+_, _*_, _<_, _≤_}
 use mathlib.Core.Path.{_≡_, _∙_}
 use mathlib.Core.List.{List}

@@ -43,7 +43,7 @@ module _ (i : Input) (lent : Lent) (a : Redoable i lent) where
           no-choice = free;
         }
 
-    -- what is reached is marked
+    -- what is reached has its flag
     module _ {reached work : List ℕ} {count : ℕ} (m : FoundReached (i .first) t (lent .work) reached work count) where
       not-redone : (v : ℕ) → v < vertices t → getD reached v 0 ≡ 0 → ¬ Redone i v
       not-redone v l e r = let one = m .flags .marked v l r in omega arith

@@ -1,4 +1,4 @@
-// The marked vertices decided anew, the others kept: the engine's start is prepared from the old answer, and the engine run.
+// The reached vertices decided anew, the others kept: the engine's start is prepared from the old answer, and the engine run.
 use game::answer::mark;
 use game::answer::record_move;
 use game::answer::recorded;
@@ -13,7 +13,7 @@ ghost use Rattle.game.specs.promise.Answer.{markRoom, markOf};
 ghost use Rattle.game.specs.promise.Lent.{asked, lent};
 ghost use Rattle.update.specs.parts.Deciding.{Chosen, Preparable, Prepared, Decidable, DecidedAnew};
 
-// The mark that v starts with: its old one, or if v is marked that of its priority's parity.
+// The mark that v starts with: its old one, or if v is reached that of its priority's parity.
 fn start_mark(v: usize, priorities: &[u8], old_winners: &[u8], reached: &[u8]) -> u8
     requires { ⌜ (v < length (now priorities)) × (v < markRoom (now «old_winners»)) × (v < length (now reached)) ⌝ }
     ensures { λ r. ⌜ Chosen (getD (now (reached .entry)) v 0) (markOf (now («old_winners» .entry)) v) (parityOf (getD (now (priorities .entry)) v 0)) r ⌝ }
@@ -24,7 +24,7 @@ fn start_mark(v: usize, priorities: &[u8], old_winners: &[u8], reached: &[u8]) -
     Player::of_priority(priorities[v]).bit
 }
 
-// The engine's start: unreached vertices settled with their old lines, marked ones open. The move of an open vertex is never read.
+// The engine's start: unreached vertices settled with their old lines, reached ones open. The move of an open vertex is never read.
 fn prepare(
     n: usize,
     priorities: &[u8],

@@ -29,7 +29,7 @@ pub enum Updated {
     Refused(Refusal),
 }
 
-// Marks what the amendment reaches, decides that anew, keeps the rest, and returns the number of the former.
+// Finds what the amendment reaches, decides that anew, keeps the rest, and returns the number of the former.
 // Until they are decided the moves stand for no choice, so that the closure follows every edge.
 fn redo(
     owners: &[u8],
@@ -91,7 +91,7 @@ fn redo(
 }
 
 // What the checker has refused is refused.
-fn given(verdict: Verdict) -> Updated
+fn as_refusal(verdict: Verdict) -> Updated
     ensures { λ r. ⌜ ((q : Refusal) → verdict ≡ Verdict.Refused q → r ≡ Updated.Refused q) ⌝ }
 {
     let Verdict::Refused(r) = verdict else {
@@ -129,7 +129,7 @@ fn amend(
         work,
     );
     let Verdict::Accepted = verdict else {
-        return given(verdict);
+        return as_refusal(verdict);
     };
     let count = redo(
         owners,

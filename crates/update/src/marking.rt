@@ -1,4 +1,4 @@
-// What an amendment reaches: every vertex with a path to a differing one, marked by the closure backwards from those.
+// What an amendment reaches: every vertex with a path to a differing one, found by the closure backwards from those.
 use crate::compare::differs;
 use reach::cells::fill;
 use reach::closure::close;
@@ -47,7 +47,7 @@ fn seed_differing(
     tail
 }
 
-// The closure's reached of n vertices as bytes.
+// What the closure has reached of n vertices, as bytes.
 fn copy_reached(n: usize, work: &[u16], reached: &mut [u8])
     requires { ⌜ Copyable n (now reached) (now work) ⌝ }
     ensures { λ _. ⌜ Copied n (now (work .entry)) (now (reached .exit)) n ⌝ }
@@ -59,7 +59,7 @@ fn copy_reached(n: usize, work: &[u16], reached: &mut [u8])
     }
 }
 
-// Marks with 1 every vertex that reaches a differing one, with 0 all others, and returns the number of the former.
+// Sets 1 for every vertex that reaches a differing one, 0 for all others, and returns the number of the former.
 pub fn find_reached(
     owners: &[u8],
     priorities: &[u8],

@@ -1,5 +1,5 @@
 -- No vertex is won by both players: their fixed moves together lead into one cycle, and its highest priority has one parity.
--- So two winners of a vertex are one, and two accepted answers have the same winners.
+-- So two winners of a vertex are one.
 use Prim.Native.Nat.{ℕ, _<_}
 use mathlib.Core.Path.{_≡_, refl, sym, subst, _∙_}
 use mathlib.Core.Logic.{_≢_, ite}
@@ -59,11 +59,3 @@ module _ (g : Game) (sound : Sound g) (moving : Moving g) where
     where
       other : p ≢ q → Wins g (opponentOf p) v
       other h = let e : q ≡ opponentOf p = omega arith in subst (λ k. Wins g k v) e b
-
--- two accepted answers have the same winners
-pub accepted-same :
-    (g : Game) (mark move mark′ move′ : ℕ → ℕ) → Sound g → Moving g →
-    Accepted g mark move → Accepted g mark′ move′ → (v : ℕ) → v < g .n → mark v ≡ mark′ v
-accepted-same g mark move mark′ move′ sound moving a b v l =
-    same-winner g sound moving v (mark v) (mark′ v) l (accepted-backed g mark move a .winner v l) (accepted-backed g mark′ move′ b .winner v l)
-    (accepted-won g mark move sound moving a v l) (accepted-won g mark′ move′ sound moving b v l)

@@ -84,14 +84,14 @@ lost-cycle-requires c κs = let s = said3 (c .before .before .before) in
 or-requires-4 : tie.Need-or-requires-4
 or-requires-4 c κs = search needs
 
-given-requires : tie.Need-given-requires
-given-requires c κs = search needs
+as-verdict-requires : tie.Need-as-verdict-requires
+as-verdict-requires c κs = search needs
 
 same-length-2 : tie.Need-same-length-2
 same-length-2 c = c .before .before .before .before .lost-cycle .ensures .1 .long ∙ c .before .before .before .before .before .before .before .before .before .before .before .before .before .before .before .before .fill .ensures .0
 
 returns-2 : tie.Need-returns-2
-returns-2 c = judged _ _ _ (c .given .ensures) (also (Fault14 _ _ _) (c .before .or4 .ensures) (said3 (c .before .before .before .before .before .before .before .before)) (c .before .before .before .before .lost-cycle .ensures .0)) (zeroed-more (zeroed (c .before .before .before .before .before .before .before .before .before .before .before .before .before .before .before .before)) (c .before .before .before .before .lost-cycle .ensures .1))
+returns-2 c = judged _ _ _ (c .as-verdict .ensures) (also (Fault14 _ _ _) (c .before .or4 .ensures) (said3 (c .before .before .before .before .before .before .before .before)) (c .before .before .before .before .lost-cycle .ensures .0)) (zeroed-more (zeroed (c .before .before .before .before .before .before .before .before .before .before .before .before .before .before .before .before)) (c .before .before .before .before .lost-cycle .ensures .1))
 
 pub judge-spec : {M : Type 1} → statement M
 judge-spec =
@@ -110,6 +110,6 @@ judge-spec =
     enum-told
     lost-cycle-requires
     or-requires-4
-    given-requires
+    as-verdict-requires
     same-length-2
     returns-2)

@@ -28,13 +28,13 @@ pub record Queued (n : ℕ) (reached queue : List ℕ) (tail : ℕ) : Type 0 whe
   pub marked : (i : ℕ) → i < tail → getD reached (getD queue i 0) 0 ≡ 1
   pub place : (v : ℕ) → v < n → getD reached v 0 ≡ 1 → (i : ℕ) × (i < tail) × (getD queue i 0 ≡ v)
 
--- v is marked because allowed steps lead from it to a vertex s that was marked before
+-- v is reached because allowed steps lead from it to a seed, which was reached before
 pub record Reason (keys sources level choice : List ℕ) (bound : ℕ) (before : List ℕ) (v : ℕ) : Type 0 where
   pub seed : ℕ
   pub marked : getD before seed 0 ≡ 1
   pub walk : Walk (Allowed keys sources level choice bound) v seed
 
--- the marks after: the marks before, whatever leads to them by allowed steps, and nothing else
+-- what is reached after: what was before, whatever leads there by allowed steps, and nothing else
 pub record ClosedFrom (n : ℕ) (keys sources level choice : List ℕ) (bound : ℕ) (before after : List ℕ) : Type 0 where
   pub kept : (v : ℕ) → v < n → getD before v 0 ≡ 1 → getD after v 0 ≡ 1
   pub reason : (v : ℕ) → v < n → getD after v 0 ≡ 1 → Reason keys sources level choice bound before v

@@ -8,7 +8,7 @@ use Rattle.reach.specs.parts.Lists.{Filled, Preds}
 use Rattle.reach.specs.parts.Closure.{Allowed, Queued, ClosedFrom}
 use Rattle.reach.specs.parts.Work.{section, Beside}
 
--- v is marked, and all else is as before
+-- v is reached, and all else is as before
 pub record Seeded (before after : List ℕ) (v : ℕ) : Type 0 where
   pub here : getD after v 0 ≡ 1
   pub other : (u : ℕ) → u ≢ v → getD after u 0 ≡ getD before u 0
@@ -49,7 +49,7 @@ pub record Visitable (n w : ℕ) (keys heads nexts sources level choice reached 
   pub closable : Closable n keys heads nexts sources level choice reached queue tail
   pub vertex : w < n
 
--- what is reached and the queue have grown, and each new mark has an allowed step to w
+-- what is reached and the queue have grown, and whatever is new has an allowed step to w
 pub record Grown (n w : ℕ) (keys sources level choice : List ℕ) (bound : ℕ) (reached queue : List ℕ) (tail : ℕ) (reached′ queue′ : List ℕ) (tail′ : ℕ) : Type 0 where
   pub queued : Queued n reached′ queue′ tail′
   pub longer : tail ≤ tail′
@@ -57,7 +57,7 @@ pub record Grown (n w : ℕ) (keys sources level choice : List ℕ) (bound : ℕ
   pub kept : (v : ℕ) → getD reached v 0 ≡ 1 → getD reached′ v 0 ≡ 1
   pub reason : (v : ℕ) → getD reached′ v 0 ≡ 1 → (getD reached v 0 ≡ 1) ⊎ Allowed keys sources level choice bound v w
 
--- a visit to w: marks have grown by what has an allowed step to w, by all of it
+-- a visit to w: what has an allowed step to w, all of it and nothing else, is reached now
 pub record Visited (n w : ℕ) (keys sources level choice : List ℕ) (bound : ℕ) (reached queue : List ℕ) (tail : ℕ) (reached′ queue′ : List ℕ) (r : ℕ) : Type 0 where
   pub grown : Grown n w keys sources level choice bound reached queue tail reached′ queue′ r
   pub all : (v : ℕ) → Allowed keys sources level choice bound v w → getD reached′ v 0 ≡ 1
@@ -100,7 +100,7 @@ pub record ClearableIn (n : ℕ) (work : List ℕ) (tail : ℕ) : Type 0 where
   pub small : n ≤ 2048
   pub queued : Queued n (section 1 n work) (section 2 n work) tail
 
--- no mark is left, and nothing else has changed
+-- nothing is reached any more, and nothing else has changed
 pub record ClearedIn (n : ℕ) (work work′ : List ℕ) : Type 0 where
   pub filled : Filled (section 1 n work′) 0
   pub queue : section 2 n work′ ≡ section 2 n work

@@ -28,7 +28,9 @@ bytes2 : (c : tie.After-judge-arg) (v : ℕ) → getD (now (c .before .before .b
 bytes2 c v = omega (arith, c .before .before .before .before .before .before .before .before .shared-slice-known6 .given v)
 
 judge-requires : tie.Need-judge-requires
-judge-requires c κs = judging-asks (input (c .before .before .before .before .before .before .before .before .before .before .before .before .before .before)) (lent (c .before .before .before .before .before .before .before .before .before .before .before .before .before .before)) (bytes (c)) (c .before .before .before .before .before .before .before .before .before .before .before .before .before .before .pre)
+judge-requires c κs =
+    let s = c .before .before .before .before .before .before .before .before .before .before .before .before .before .before in
+    judging-asks (input s) (lent s) (bytes c) (s .pre)
 
 enum-told : tie.Need-enum-told
 enum-told c = search needs
@@ -36,19 +38,23 @@ enum-told c = search needs
 enum-told-2 : tie.Need-enum-told-2
 enum-told-2 c = search needs
 
-given-requires : tie.Need-given-requires
-given-requires c κs = search needs
+as-refusal-requires : tie.Need-as-refusal-requires
+as-refusal-requires c κs = search needs
 
 same-length : tie.Need-same-length
 same-length c = search needs
 
 returns : tie.Need-returns
 returns c =
+    let s = c .before .before .before .before .before .before .before .before .before .before .before .before .before .before .before .before .before .before .before .before in
     let told = c .before .enum-told2 .given .1 in
-    refused-judged (input (c .before .before .before .before .before .before .before .before .before .before .before .before .before .before .before .before .before .before .before .before)) (lent (c .before .before .before .before .before .before .before .before .before .before .before .before .before .before .before .before .before .before .before .before)) (bytes (c .before .before .before .before .before .before)) (c .before .before .before .before .before .before .before .before .before .before .before .before .before .before .before .before .before .before .before .before .pre) (c .before .before .before .before .before .judge .ensures) told (c .given .ensures _ told)
+    refused-judged (input s) (lent s) (bytes (c .before .before .before .before .before .before)) (s .pre) (c .before .before .before .before .before .judge .ensures) told (c .as-refusal .ensures _ told)
 
 redo-requires : tie.Need-redo-requires
-redo-requires c κs = redoing-asks (input (c .before .before .before .before .before .before .before .before .before .before .before .before .before .before .before .before .before .before .before .before .before .before)) (lent (c .before .before .before .before .before .before .before .before .before .before .before .before .before .before .before .before .before .before .before .before .before .before)) (bytes (c .before .before .before .before .before .before .before .before)) (c .before .before .before .before .before .before .before .before .before .before .before .before .before .before .before .before .before .before .before .before .before .before .pre) (c .before .before .before .before .before .before .before .judge .ensures) (bytes2 (c .before .before .before .before .before .before .before .before)) (c .before .before .before .enum-told .given .1)
+redo-requires c κs =
+    let s = c .before .before .before .before .before .before .before .before .before .before .before .before .before .before .before .before .before .before .before .before .before .before in
+    let j = c .before .before .before .before .before .before .before .before in
+    redoing-asks (input s) (lent s) (bytes j) (s .pre) (c .before .before .before .before .before .before .before .judge .ensures) (bytes2 j) (c .before .before .before .enum-told .given .1)
 
 same-length-2 : tie.Need-same-length-2
 same-length-2 c = search needs
@@ -60,7 +66,9 @@ same-length-4 : tie.Need-same-length-4
 same-length-4 c = search needs
 
 returns-2 : tie.Need-returns-2
-returns-2 c = done (input (c .before .before .before .before .before .before .before .before .before .before .before .before .before .before .before .before .before .before .before .before .before .before .before .before .before .before .before .before .before)) (lent (c .before .before .before .before .before .before .before .before .before .before .before .before .before .before .before .before .before .before .before .before .before .before .before .before .before .before .before .before .before)) (bytes (c .before .before .before .before .before .before .before .before .before .before .before .before .before .before .before)) (c .before .before .before .before .before .before .before .before .before .before .before .before .before .before .before .before .before .before .before .before .before .before .before .before .before .before .before .before .before .pre) (c .before .before .before .before .before .before .before .before .before .before .before .before .before .before .judge .ensures) (c .before .before .before .before .before .before .before .before .before .before .enum-told .given .1) (c .before .before .before .before .before .before .redo .ensures)
+returns-2 c =
+    let s = c .before .before .before .before .before .before .before .before .before .before .before .before .before .before .before .before .before .before .before .before .before .before .before .before .before .before .before .before .before in
+    done (input s) (lent s) (bytes (c .before .before .before .before .before .before .before .before .before .before .before .before .before .before .before)) (s .pre) (c .before .before .before .before .before .before .before .before .before .before .before .before .before .before .judge .ensures) (c .before .before .before .before .before .before .before .before .before .before .enum-told .given .1) (c .before .before .before .before .before .before .redo .ensures)
 
 pub amend-spec : {M : Type 1} → statement M
 amend-spec =
@@ -69,7 +77,7 @@ amend-spec =
     judge-requires
     enum-told
     enum-told-2
-    given-requires
+    as-refusal-requires
     same-length
     returns
     redo-requires

@@ -39,7 +39,9 @@ enum-told : tie.Need-enum-told
 enum-told c = search needs
 
 amend-requires : tie.Need-amend-requires
-amend-requires c κs = tested-passed (testRows (input (c .before .before .before .before .before .before .before .before .before .before .before .before .before .before .before .before .before .before .before .before .before .before)) (lent (c .before .before .before .before .before .before .before .before .before .before .before .before .before .before .before .before .before .before .before .before .before .before))) (c .before .before .before .enum-told .given .1) (c .before .before .before .before .before .test-input .ensures)
+amend-requires c κs =
+    let s = c .before .before .before .before .before .before .before .before .before .before .before .before .before .before .before .before .before .before .before .before .before .before in
+    tested-passed (testRows (input s) (lent s)) (c .before .before .before .enum-told .given .1) (c .before .before .before .before .before .test-input .ensures)
 
 same-length-4 : tie.Need-same-length-4
 same-length-4 c = search needs

@@ -1,4 +1,4 @@
--- What preparing the engine's start and deciding anew ask and give. All lists are the second game's but the old answer; reached tell what is decided anew.
+-- What preparing the engine's start and deciding anew ask and give. All lists are the second game's but the old answer; `reached` has 1 where a vertex is decided anew, else 0.
 use Prim.Native.Nat.{ℕ, _*_, _<_, _≤_}
 use mathlib.Core.Path.{_≡_}
 use mathlib.Core.Logic.{_≢_}
@@ -14,12 +14,12 @@ use Rattle.justification.specs.parts.Start.{SameAt}
 use Rattle.reach.specs.parts.Work.{section}
 use Rattle.reach.specs.parts.Lists.{Filled, Preds, EdgesOf}
 
--- r is the old value where the mark is 0, else the fresh one
-pub record Chosen (mark old fresh r : ℕ) : Type 0 where
-  pub kept : mark ≡ 0 → r ≡ old
-  pub anew : mark ≢ 0 → r ≡ fresh
+-- r is the old value where nothing is reached, else the fresh one
+pub record Chosen (reached old fresh r : ℕ) : Type 0 where
+  pub kept : reached ≡ 0 → r ≡ old
+  pub anew : reached ≢ 0 → r ≡ fresh
 
--- lists of n vertices' lines, old and new, with reached for them and a work space all zero
+-- lists of n vertices' lines, old and new, with a flag for each that tells whether it is reached, and a work space all zero
 pub record Preparable (n : ℕ) (priorities old-winners old-moves reached winners moves work : List ℕ) : Type 0 where
   pub priorities-long : length priorities ≡ n
   pub old-winners-room : markRoom old-winners ≡ n
@@ -30,7 +30,7 @@ pub record Preparable (n : ℕ) (priorities old-winners old-moves reached winner
   pub work-long : length work ≡ 4 * n
   pub blank : Filled work 0
 
--- the lines below v: the old winner where the mark is 0, else the own parity; the old move; the flags, in section 0 of the work space, are the reached
+-- the lines below v: the old winner where the vertex is not reached, else its own parity; the old move; the engine's flags, in section 0 of the work space, open what is reached
 pub record Prepared (n : ℕ) (priorities old-winners old-moves reached winners moves work : List ℕ) (v : ℕ) : Type 0 where
   pub winner : (u : ℕ) → u < v → Chosen (getD reached u 0) (markOf old-winners u) (parityOf (getD priorities u 0)) (markOf winners u)
   pub move : (u : ℕ) → u < v → moveOf moves u ≡ moveOf old-moves u
@@ -41,7 +41,7 @@ pub record Prepared (n : ℕ) (priorities old-winners old-moves reached winners 
   pub work-long : length work ≡ 4 * n
 
 module _ (tables : Tables) (old-winners old-moves reached : List ℕ) where
-  -- the old answer is accepted for a game of as many vertices that agrees with this one where the mark is 0, and no edge leads from there to another mark
+  -- the old answer is accepted for a game of as many vertices that agrees with this one where nothing is reached, and no edge leads from there to what is reached
   pub record OldKept : Type 0 where
     pub first : Game
     pub size : first .n ≡ vertices tables
@@ -57,7 +57,7 @@ module _ (tables : Tables) (old-winners old-moves reached : List ℕ) where
     pub preparable : Preparable (vertices tables) (tables .priorities) old-winners old-moves reached winners moves work
     pub kept : OldKept
 
-  -- what it gives: an accepted answer with the old lines where the mark is 0
+  -- what it gives: an accepted answer with the old lines where nothing is reached
   pub record DecidedAnew (winners moves work winners′ moves′ work′ : List ℕ) : Type 0 where
     pub winners-long : length winners′ ≡ length winners
     pub moves-long : length moves′ ≡ length moves

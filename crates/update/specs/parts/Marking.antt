@@ -1,4 +1,4 @@
--- What the comparison of two games and the marking of what an amendment reaches ask and give.
+-- What comparing two games and finding what an amendment reaches ask and give.
 use Prim.Native.Nat.{ℕ, _*_, _<_, _≤_}
 use mathlib.Core.Path.{_≡_}
 use mathlib.Core.List.{List}
@@ -29,13 +29,13 @@ pub record Seeding (P : ℕ → Type 0) (n : ℕ) (before after : List ℕ) (tai
   pub sound : (u : ℕ) → getD (section 1 n after) u 0 ≡ 1 → P u × (u < v)
   pub all : (u : ℕ) → u < v → P u → getD (section 1 n after) u 0 ≡ 1
 
--- the closure's reached, in section 1 of the work space of n vertices, can be copied as bytes
+-- what the closure has reached, in section 1 of the work space of n vertices, can be copied as bytes
 pub record Copyable (n : ℕ) (reached work : List ℕ) : Type 0 where
   pub room : n ≤ length reached
   pub long : length work ≡ 4 * n
   pub flag : (v : ℕ) → v < n → getD (section 1 n work) v 0 ≤ 1
 
--- the reached of the vertices below v are copied
+-- that of the vertices below v is copied
 pub record Copied (n : ℕ) (work reached : List ℕ) (v : ℕ) : Type 0 where
   pub same : (u : ℕ) → u < v → getD reached u 0 ≡ getD (section 1 n work) u 0
 
@@ -50,7 +50,7 @@ module _ (tables : Tables) (tables2 : Tables) where
     pub long : length work ≡ 4 * vertices tables2
     pub blank : Filled work 0
 
-  -- what marking asks: the predecessor lists of the second game, no choice of moves, a work space all zero
+  -- what finding it asks: the predecessor lists of the second game, no choice of moves, a work space all zero
   pub record Findable (heads nexts sources reached choice work : List ℕ) : Type 0 where
     pub seedable : DifferingSeedable work
     pub preds : Preds (vertices tables2) (tables2 .targets) heads nexts sources
@@ -59,7 +59,7 @@ module _ (tables : Tables) (tables2 : Tables) where
     pub choice-long : length choice ≡ vertices tables2
     pub no-choice : Filled choice nil
 
-  -- what it gives: the reached, their number, and the work space all zero again
+  -- what it gives: flags of the reached vertices, their number, and the work space all zero again
   pub record FoundReached (work reached′ work′ : List ℕ) (count : ℕ) : Type 0 where
     pub flags : Flags ReachedBy (vertices tables2) reached′
     pub number : CountOf ReachedBy (vertices tables2) count

@@ -13,7 +13,7 @@ abbrev pub noMove : ℕ
 noMove = 65535
 
 module _ (g : Game) (mark move : ℕ → ℕ) where
-  -- each vertex is marked for a player; its move is a successor where that player owns it
+  -- each vertex is marked for a player; its move is a successor where that player owns it, and none elsewhere
   pub record Form : Type 0 where
     pub winner : (v : ℕ) → v < g .n → IsPlayer (mark v)
     pub successor : (v : ℕ) → v < g .n → g .owner v ≡ mark v → Edge g v (move v)

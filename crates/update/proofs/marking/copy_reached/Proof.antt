@@ -1,4 +1,4 @@
--- `update::marking::copy_reached` meets its contract. The invariant, `Copied`: the reached of the vertices passed are copied. A mark is 0 or 1, so it is a byte.
+-- `update::marking::copy_reached` meets its contract. The invariant, `Copied`: the cells of the vertices passed are copied. A cell is 0 or 1, so it is a byte.
 -- Assumes nothing.
 use Prim.Native.Nat.{_<_, _≤_, _-_}
 use mathlib.Core.Path.{_≡_}
