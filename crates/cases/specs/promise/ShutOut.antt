@@ -59,7 +59,7 @@ pub record WrongPrograms : Type 0 where
   pub any-successor : (lent : Lent) → Fits 2 lent → ShutOut (Solving game9 lent) (λ o. getD (o .left .answer .moves) 0 0 ≡ 0)
   pub any-move-accepted :
       (work : List ℕ) → length work ≡ 8 → ShutOut (Checking game9 (line (0 ∷ 0 ∷ []) (0 ∷ 1 ∷ [])) work) (λ j. IsSuccess (j .said))
-  -- only the differing vertices and their direct predecessors decided anew: `chain` to `chain1`, the winner of 0 left as it was
+  -- only what differs, and what is one step before it, decided anew: `chain` to `chain1`, the winner of 0 left as it was
   pub direct-predecessors :
       (lent : Lent) → Fits 3 lent → ShutOut (Updating chain chain1 (line (0 ∷ 0 ∷ 0 ∷ []) (1 ∷ 2 ∷ 2 ∷ [])) lent) (λ o. getD (o .left .answer .winners) 0 0 ≡ 0)
   -- a move carried over because the winner stayed: A2 to A, old move 1 at 0
