@@ -5,8 +5,8 @@
  *
  * The result is 0 on success, else the number of the refusal; *value receives the refusal's place, or on success what is said below.
  * A refusal leaves every lent list unchanged, except that 11 to 14 leave the work space all zero; after success it is all zero.
- * Stack of a call that succeeds, in bytes, as bench/stack measures it: zoetelkorf_check 70,136, zoetelkorf_solve 84,157,
- * zoetelkorf_update 141,976, zoetelkorf_read 190. Nothing proves these figures.
+ * Stack of a call that succeeds, in bytes, as bench/stack measures it: zoetelkorf_check 37,368, zoetelkorf_solve 51,229,
+ * zoetelkorf_update 53,533, zoetelkorf_read 44,392. Nothing proves these figures.
  * A solve or an update ends on every game, but no bound on its time is proved: see README, 'How slow a small game can be'.
  * With n the length of owners: priorities n, starts n + 1, winners n, moves n, work 4 * n.
  */
@@ -19,6 +19,45 @@
 #ifdef __cplusplus
 extern "C" {
 #endif
+
+/* The numbers of refusal; 0 is success. Beside each stands when it is given and, after the colon, what the place is; without a colon it is 0.
+ * Of several that apply the first in the call's order is given, at its lowest place (docs/RULES.md). Let a switch over them have a default. */
+enum zoetelkorf_refusal {
+    /* the tables of a game, or of an update's first game */
+    ZOETELKORF_SIZES = 1,    /* no vertex or over 2,048; over 16,384 targets; priorities or starts do not go with the owners */
+    ZOETELKORF_OWNER = 2,    /* an owner is neither 0 nor 1: the vertex */
+    ZOETELKORF_PRIORITY = 3, /* a priority is 255: the vertex */
+    ZOETELKORF_START = 4,    /* the starts do not begin with 0, fall, or do not end with the number of targets: in starts */
+    ZOETELKORF_STUCK = 5,    /* a vertex has no successor: the vertex */
+    ZOETELKORF_TARGET = 6,   /* a target is no vertex: in targets */
+    ZOETELKORF_ORDER = 7,    /* the successors of a vertex do not ascend: in targets, the later of the two */
+
+    /* what else is lent */
+    ZOETELKORF_BUFFER = 8,   /* winners, moves, work or a table of the reader has another length than it should */
+    ZOETELKORF_VERTICES = 9, /* the two games of an update do not have equally many vertices */
+
+    /* an answer that is judged: the work space is zero afterwards */
+    ZOETELKORF_MARK = 11,   /* a winner is neither 0 nor 1: the vertex */
+    ZOETELKORF_MOVE = 12,   /* where its winner owns, no move to a successor of his, or a move where he does not own: the vertex */
+    ZOETELKORF_ESCAPE = 13, /* the loser can leave from a vertex of his for one with the other mark: the vertex */
+    ZOETELKORF_CYCLE = 14,  /* the moves allow a cycle that its winner loses: the vertex with the highest priority on it */
+
+    /* the tables of an update's second game */
+    ZOETELKORF_SECOND_SIZES = 21,    /* as ZOETELKORF_SIZES */
+    ZOETELKORF_SECOND_OWNER = 22,    /* as ZOETELKORF_OWNER */
+    ZOETELKORF_SECOND_PRIORITY = 23, /* as ZOETELKORF_PRIORITY */
+    ZOETELKORF_SECOND_START = 24,    /* as ZOETELKORF_START */
+    ZOETELKORF_SECOND_STUCK = 25,    /* as ZOETELKORF_STUCK */
+    ZOETELKORF_SECOND_TARGET = 26,   /* as ZOETELKORF_TARGET */
+    ZOETELKORF_SECOND_ORDER = 27,    /* as ZOETELKORF_ORDER */
+
+    /* a house game file */
+    ZOETELKORF_FILE_LENGTH = 41, /* it is shorter than a block, or not as long as block 0 says: how many whole blocks there are */
+    ZOETELKORF_FILE_CHECK = 42,  /* a block's check does not hold, so its bytes are damaged: the block */
+    ZOETELKORF_FILE_KIND = 43,   /* a block's number or kind is not the one due there: the block */
+    ZOETELKORF_FILE_BYTES = 44,  /* a block's used count, rule, or a byte that should be 0 is wrong: the block */
+    ZOETELKORF_FILE_EDGES = 45   /* the vertices' numbers of successors do not add up to the number of edges */
+};
 
 /* Whether winners and moves are right for the game; *value 0 on acceptance. */
 uint64_t zoetelkorf_check(const uint8_t *owners, size_t owners_len, const uint8_t *priorities, size_t priorities_len,

@@ -1,8 +1,4 @@
 pub mod Piles
-pub mod Looking
-pub mod Weighing
-pub mod Offers
 pub mod Draws
 pub mod Visits
-pub mod Gathers
-pub mod Sweeps
+pub mod Drains

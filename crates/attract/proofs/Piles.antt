@@ -1,35 +1,60 @@
--- One vertex more on the pile.
+-- One vertex more on the pile, and the engine under another pile.
 use Prim.Native.Nat.{ℕ, _+_, _<_}
-use mathlib.Core.Path.{_≡_, sym, subst, _∙_}
+use mathlib.Core.Path.{_≡_, refl, sym, ap, subst, _∙_}
 use mathlib.Core.Logic.{_≢_}
 use mathlib.Core.List.{List}
 use native.Mathlib.Decide.{ℕ-discrete}
 use native.Mathlib.Omega.{arith}
-use lib.ListN.{length, getD, set, length-set}
+use lib.ListN.{getD, set}
 use lib.Seq.{getD-set-same, getD-set-other}
-use Rattle.attract.specs.parts.Pile.{Piled, Pushable, PushedOn}
+use Rattle.game.specs.promise.Tables.{Tables}
+use Rattle.space.specs.parts.Desk.{Desk, Laid, putPiled}
+use Rattle.space.proofs.Desks.{laid-piled}
+use Rattle.pick.proofs.Picking.{standing-lines}
+use Rattle.step.specs.parts.Stepping.{Engine}
+use Rattle.attract.specs.parts.Pile.{Piled, PileOnly, Pushable, PushedOn}
 
-pub pushed-one : {x tail : ℕ} {stack : List ℕ} → Pushable x stack tail → tail ≢ length stack → PushedOn x stack tail (set stack tail x) (tail + 1)
-pushed-one {x} {tail} {stack} p ne =
+-- nothing is pushed
+pub pushed-none : {x tail : ℕ} {d : Desk} → Laid d → PushedOn x d tail d tail
+pushed-none l = record { piled = λ n h a. a; only = record { laid = l; firsts = refl; lasts = refl; waiting = refl; levels = refl } }
+
+pub pushed-one : {x tail : ℕ} {d d′ : Desk} → Pushable x d tail → tail ≢ 2048 → d′ ≡ putPiled tail x d → PushedOn x d tail d′ (tail + 1)
+pushed-one {x} {tail} {d} {d′} p ne is =
     record {
-      piled =
-          λ n l a.
+      piled = λ n l a. record { within = omega (arith, p .within); vertex = λ i h. at n l a i h (ℕ-discrete i tail) };
+      only =
           record {
-            long = length-set stack tail x ∙ a .long;
-            within = omega (arith, p .long, p .within);
-            vertex = λ i h. at n l a i h (ℕ-discrete i tail);
+            laid = laid-piled tail x is (p .laid);
+            firsts = ap (λ (y : Desk). y .firsts) is;
+            lasts = ap (λ (y : Desk). y .lasts) is;
+            waiting = ap (λ (y : Desk). y .waiting) is;
+            levels = ap (λ (y : Desk). y .levels) is;
           };
     }
   where
-    at : (n : ℕ) → x < n → Piled n stack tail → (i : ℕ) → i < tail + 1 → Dec (i ≡ tail) → getD (set stack tail x) i 0 < n
+    pile : d′ .pile ≡ set (d .pile) tail x
+    pile = ap (λ (y : Desk). y .pile) is
+
+    at : (n : ℕ) → x < n → Piled n (d .pile) tail → (i : ℕ) → i < tail + 1 → Dec (i ≡ tail) → getD (d′ .pile) i 0 < n
     at n l a i h (yes e) =
-        subst (λ (k : ℕ). k < n) (sym (subst (λ (k : ℕ). getD (set stack tail x) k 0 ≡ x) (sym e) (getD-set-same stack tail x 0 (omega (arith, p .long, p .within))))) l
-    at n l a i h (no d) = subst (λ (k : ℕ). k < n) (sym (getD-set-other stack tail i x 0 d)) (a .vertex i (omega arith))
+        subst (λ (k : ℕ). k < n) (sym (ap (λ (y : List ℕ). getD y i 0) pile ∙ ap (λ (k : ℕ). getD (set (d .pile) tail x) k 0) e ∙ getD-set-same (d .pile) tail x 0 (omega (arith, p .laid .pile-long, p .within)))) l
+    at n l a i h (no q) = subst (λ (k : ℕ). k < n) (sym (ap (λ (y : List ℕ). getD y i 0) pile ∙ getD-set-other (d .pile) tail i x 0 q)) (a .vertex i (omega arith))
 
 -- a pile of none
-pub piled-none : {n : ℕ} {stack : List ℕ} → length stack ≡ 2048 → Piled n stack 0
-piled-none e = record { long = e; within = omega arith; vertex = λ i l. absurd (omega arith) }
+pub piled-none : {n : ℕ} {pile : List ℕ} → Piled n pile 0
+piled-none = record { within = omega arith; vertex = λ i l. absurd (omega arith) }
 
 -- a lower pile
-pub piled-less : {n tail : ℕ} {stack : List ℕ} → Piled n stack (tail + 1) → Piled n stack tail
-piled-less {n} {tail} p = record { long = p .long; within = omega (arith, p .within); vertex = λ i l. p .vertex i (omega arith) }
+pub piled-less : {n tail : ℕ} {pile : List ℕ} → Piled n pile (tail + 1) → Piled n pile tail
+piled-less {n} {tail} p = record { within = omega (arith, p .within); vertex = λ i l. p .vertex i (omega arith) }
+
+-- the engine does not read the pile
+pub engine-pile : {tables : Tables} {ins froms : List ℕ} {d d′ : Desk} {winners moves work : List ℕ} → PileOnly d d′ → Engine tables ins froms d winners moves work → Engine tables ins froms d′ winners moves work
+engine-pile o e =
+    record {
+      state = e .state;
+      preds = e .preds;
+      standing = standing-lines (e .standing) (o .laid) (e .standing .work-long) (rw (o .waiting, o .firsts, o .lasts) (e .standing .lines));
+      covered = rw (o .waiting) (e .covered);
+      levelled = rw (o .levels) (e .levelled);
+    }

@@ -1,4 +1,2 @@
 pub mod Pile
-pub mod Offering
 pub mod Drawing
-pub mod Gathering

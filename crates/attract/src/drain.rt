@@ -1,8 +1,12 @@
 // Attracting until the pile is empty, under a budget.
 use crate::draw::visit;
 use crate::pile::Pile;
+use game::vertex::wide;
+use space::desk::piled;
+use storage::Winner;
 ghost use Prim.Native.Nat.{_≤_};
 ghost use Rattle.game.specs.promise.Lent.{asked, lent};
+ghost use Rattle.space.specs.parts.Desk.{deskOf};
 ghost use Rattle.attract.specs.parts.Drawing.{Drainable, Drawn};
 
 // What is left of the budget, and a priority from which on nothing has been settled.
@@ -20,21 +24,16 @@ pub fn drain(
     priorities: &[u8],
     starts: &[u16],
     targets: &[u16],
-    heads: &[u16],
-    nexts: &[u16],
-    sources: &[u16],
-    firsts: &mut [u16],
-    lasts: &mut [u16],
-    waiting: &mut [u16],
-    levels: &mut [u16],
-    stack: &mut [u16],
-    winners: &mut [u8],
+    ins: &[u16],
+    froms: &[u16],
+    desk: &mut [u16],
+    winners: &mut [Winner],
     moves: &mut [u16],
     work: &mut [u16],
 ) -> Left
-    requires { ⌜ Drainable tail (asked owners priorities starts targets) (now heads) (now nexts) (now sources) (now firsts) (now lasts) (now waiting) (now levels) (now stack) (now winners) (now moves) (now work) ⌝ }
+    requires { ⌜ Drainable tail (asked owners priorities starts targets) (now ins) (now froms) (deskOf (now desk)) (now winners) (now moves) (now work) ⌝ }
     ensures left { λ r. ⌜ r .budget ≤ budget ⌝ }
-    ensures moved { λ r. ⌜ Drawn 0 (lent owners priorities starts targets) (now (heads .entry)) (now (nexts .entry)) (now (sources .entry)) (now (winners .entry)) (now (moves .entry)) (now (work .entry)) (now (firsts .exit)) (now (lasts .exit)) (now (waiting .exit)) (now (levels .exit)) (now (stack .exit)) (now (winners .exit)) (now (moves .exit)) (now (work .exit)) ⌝ }
+    ensures moved { λ r. ⌜ Drawn 0 (lent owners priorities starts targets) (now (ins .entry)) (now (froms .entry)) (now (winners .entry)) (now (moves .entry)) (now (work .entry)) (deskOf (now (desk .exit))) (now (winners .exit)) (now (moves .exit)) (now (work .exit)) ⌝ }
 {
     let mut pile = Pile { tail, top: 0 };
     let mut left = budget;
@@ -47,27 +46,21 @@ pub fn drain(
             };
         }
         let last = end - 1;
-        let u = stack[last] as usize;
         let rest = Pile {
             tail: last,
             top: pile.top,
         };
         pile = visit(
-            u,
+            wide(piled(last, desk)),
             low,
             rest,
             owners,
             priorities,
             starts,
             targets,
-            heads,
-            nexts,
-            sources,
-            firsts,
-            lasts,
-            waiting,
-            levels,
-            stack,
+            ins,
+            froms,
+            desk,
             winners,
             moves,
             work,

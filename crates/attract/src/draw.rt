@@ -1,12 +1,14 @@
 // Drawing the predecessors of a vertex to its winner.
-use crate::offer::Chance;
-use crate::offer::offer;
 use crate::pile::Pile;
 use crate::pile::larger;
 use crate::pile::push;
-use game::NIL;
+use game::vertex::wide;
+use offer::Chance;
+use offer::offer;
 use step::step;
+use storage::Winner;
 ghost use Rattle.game.specs.promise.Lent.{asked, lent};
+ghost use Rattle.space.specs.parts.Desk.{deskOf};
 ghost use Rattle.attract.specs.parts.Drawing.{Drawable, Drawn, DrawVisitable};
 
 // x, where an edge leads to u, gets the line that it can get through u, if any, and goes on the pile.
@@ -19,20 +21,15 @@ fn draw(
     priorities: &[u8],
     starts: &[u16],
     targets: &[u16],
-    heads: &[u16],
-    nexts: &[u16],
-    sources: &[u16],
-    firsts: &mut [u16],
-    lasts: &mut [u16],
-    waiting: &mut [u16],
-    levels: &mut [u16],
-    stack: &mut [u16],
-    winners: &mut [u8],
+    ins: &[u16],
+    froms: &[u16],
+    desk: &mut [u16],
+    winners: &mut [Winner],
     moves: &mut [u16],
     work: &mut [u16],
 ) -> Pile
-    requires { ⌜ Drawable x u (pile .tail) (asked owners priorities starts targets) (now heads) (now nexts) (now sources) (now firsts) (now lasts) (now waiting) (now levels) (now stack) (now winners) (now moves) (now work) ⌝ }
-    ensures { λ r. ⌜ Drawn (r .tail) (lent owners priorities starts targets) (now (heads .entry)) (now (nexts .entry)) (now (sources .entry)) (now (winners .entry)) (now (moves .entry)) (now (work .entry)) (now (firsts .exit)) (now (lasts .exit)) (now (waiting .exit)) (now (levels .exit)) (now (stack .exit)) (now (winners .exit)) (now (moves .exit)) (now (work .exit)) ⌝ }
+    requires { ⌜ Drawable x u (pile .tail) (asked owners priorities starts targets) (now ins) (now froms) (deskOf (now desk)) (now winners) (now moves) (now work) ⌝ }
+    ensures { λ r. ⌜ Drawn (r .tail) (lent owners priorities starts targets) (now (ins .entry)) (now (froms .entry)) (now (winners .entry)) (now (moves .entry)) (now (work .entry)) (deskOf (now (desk .exit))) (now (winners .exit)) (now (moves .exit)) (now (work .exit)) ⌝ }
 {
     let offered = offer(
         x,
@@ -42,7 +39,7 @@ fn draw(
         priorities,
         starts,
         targets,
-        levels,
+        desk,
         winners,
         work,
     );
@@ -54,21 +51,16 @@ fn draw(
         line,
         0,
         priorities,
-        targets,
-        heads,
-        nexts,
-        sources,
-        firsts,
-        lasts,
-        waiting,
-        levels,
+        ins,
+        froms,
+        desk,
         winners,
         moves,
         work,
     );
     let above = priorities[x] as usize + 1;
     Pile {
-        tail: push(x, stack, pile.tail),
+        tail: push(x, desk, pile.tail),
         top: larger(pile.top, above),
     }
 }
@@ -82,28 +74,22 @@ pub fn visit(
     priorities: &[u8],
     starts: &[u16],
     targets: &[u16],
-    heads: &[u16],
-    nexts: &[u16],
-    sources: &[u16],
-    firsts: &mut [u16],
-    lasts: &mut [u16],
-    waiting: &mut [u16],
-    levels: &mut [u16],
-    stack: &mut [u16],
-    winners: &mut [u8],
+    ins: &[u16],
+    froms: &[u16],
+    desk: &mut [u16],
+    winners: &mut [Winner],
     moves: &mut [u16],
     work: &mut [u16],
 ) -> Pile
-    requires { ⌜ DrawVisitable u (pile .tail) (asked owners priorities starts targets) (now heads) (now nexts) (now sources) (now firsts) (now lasts) (now waiting) (now levels) (now stack) (now winners) (now moves) (now work) ⌝ }
-    ensures { λ r. ⌜ Drawn (r .tail) (lent owners priorities starts targets) (now (heads .entry)) (now (nexts .entry)) (now (sources .entry)) (now (winners .entry)) (now (moves .entry)) (now (work .entry)) (now (firsts .exit)) (now (lasts .exit)) (now (waiting .exit)) (now (levels .exit)) (now (stack .exit)) (now (winners .exit)) (now (moves .exit)) (now (work .exit)) ⌝ }
+    requires { ⌜ DrawVisitable u (pile .tail) (asked owners priorities starts targets) (now ins) (now froms) (deskOf (now desk)) (now winners) (now moves) (now work) ⌝ }
+    ensures { λ r. ⌜ Drawn (r .tail) (lent owners priorities starts targets) (now (ins .entry)) (now (froms .entry)) (now (winners .entry)) (now (moves .entry)) (now (work .entry)) (deskOf (now (desk .exit))) (now (winners .exit)) (now (moves .exit)) (now (work .exit)) ⌝ }
 {
     let mut drawn = pile;
-    let mut e = heads[u] as usize;
-    while e < NIL {
-        let x = sources[e] as usize;
-        e = nexts[e] as usize;
+    let last = wide(ins[u + 1]);
+    let mut i = wide(ins[u]);
+    while i < last {
         drawn = draw(
-            x,
+            wide(froms[i]),
             u,
             low,
             drawn,
@@ -111,18 +97,14 @@ pub fn visit(
             priorities,
             starts,
             targets,
-            heads,
-            nexts,
-            sources,
-            firsts,
-            lasts,
-            waiting,
-            levels,
-            stack,
+            ins,
+            froms,
+            desk,
             winners,
             moves,
             work,
         );
+        i += 1;
     }
     drawn
 }

@@ -1,6 +1,4 @@
 // Attraction: from a vertex, open or settled, to the open vertices from which its winner can force a step there.
 pub mod drain;
 pub mod draw;
-pub mod offer;
 pub mod pile;
-pub mod sweep;

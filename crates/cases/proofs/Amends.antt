@@ -10,7 +10,7 @@ use Rattle.winning.proofs.Reflect.{Tests, holds, fails, tests-map, tests-not, t
 use Rattle.winning.proofs.Edges.{tests-edge}
 use Rattle.winning.proofs.Reachable.{walk-tests}
 use Rattle.winning.proofs.Search.{tests-some}
-use Rattle.update.specs.promise.Amended.{Differs, owner, priority, successors, Reaches, CountOf, none, one, skip}
+use Rattle.amend.specs.promise.Amended.{Differs, owner, priority, successors, Reaches, CountOf, none, one, skip}
 use Rattle.cases.proofs.Equal.{isSame, tests-same}
 
 -- whether there is a walk

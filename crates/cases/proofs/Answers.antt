@@ -8,8 +8,8 @@ use lib.Dec.{T, eqb}
 use lib.ListN.{length, getD}
 use Rattle.game.specs.promise.Game.{Listed}
 use Rattle.game.specs.promise.Tables.{Tables, vertices, gameOf, WellFormed}
-use Rattle.game.specs.promise.Answer.{Answer, markOf, moveOf}
-use Rattle.game.specs.promise.Lent.{Lent}
+use Rattle.storage.specs.promise.Answer.{Answer, winnerCells, markOf, moveOf}
+use Rattle.storage.specs.promise.Lent.{Lent}
 use Rattle.game.proofs.WellFormed.{well-formed}
 use Rattle.winning.proofs.Reflect.{Tests, holds, fails, tests-not, tests-and, tests-eq}
 use Rattle.winning.proofs.Accepted.{right-accepted}
@@ -32,7 +32,7 @@ module _ (t : Tables) (a : Answer) where
   pub record Answered : Type 0 where
     pub bytes : (v : ℕ) → getD (t .priorities) v 0 < 256
     pub formed : WellFormed t
-    pub winners-long : length (a .winners) ≡ vertices t
+    pub winners-long : length (a .winners) ≡ winnerCells (vertices t)
     pub moves-long : length (a .moves) ≡ vertices t
     pub right : IsRight t a
 

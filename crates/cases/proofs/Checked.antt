@@ -8,14 +8,15 @@ use lib.Dec.{T}
 use lib.ListN.{length, length-replicate, getD-replicate}
 use Rattle.refusal.specs.promise.Row.{Said, success, refused, row, Gives, First}
 use Rattle.refusal.proofs.Rows.{none-left, none-right, first-front, first-number}
-use Rattle.game.specs.promise.Tables.{Tables, vertices, gameOf}
-use Rattle.game.specs.promise.Answer.{Answer, markOf, moveOf}
+use Rattle.game.specs.promise.Tables.{Tables, vertices}
+use Rattle.storage.specs.promise.Answer.{Answer, winnerCells}
 use Rattle.game.specs.promise.Faults.{tableRows}
-use Rattle.game.specs.promise.Lent.{Fault8, lentSizes, Zeroed, Judging, Leaves}
+use Rattle.game.specs.promise.Lent.{Fault8}
+use Rattle.storage.specs.promise.Lent.{lentSizes, Zeroed, Judging, Leaves}
 use Rattle.game.proofs.Sizes.{none-of-fit}
 use Rattle.winning.proofs.Reflect.{Tests, holds, fails, tests-map, tests-and, tests-le}
-use Rattle.winning.proofs.Accepted.{accepted-right, right-accepted}
 use Rattle.checker.specs.promise.Checking.{IsRight, judgeRows, beforeRows, checkRows}
+use Rattle.checker.proofs.Verdicts.{right-of-none, none-of-right}
 use Rattle.checker.proofs.Unique.{checks-unique}
 use Rattle.cases.specs.promise.Table.{checked, judgement, Checking, zeros, workAfter, RowHolds}
 use Rattle.cases.proofs.Equal.{by-test, tests-itself, isSame, tests-same, isSaid, same-said}
@@ -51,7 +52,7 @@ module _ (t : Tables) (a : Answer) where
   isChecked said = isLong t a && (isSaid checkSaid said && noValues said)
 
   module _ (work : List ℕ) where
-    said-gives : length (a .winners) ≡ vertices t → length (a .moves) ≡ vertices t → length work ≡ 4 * vertices t → Gives (checkRows t a work) checkSaid
+    said-gives : length (a .winners) ≡ winnerCells (vertices t) → length (a .moves) ≡ vertices t → length work ≡ 4 * vertices t → Gives (checkRows t a work) checkSaid
     said-gives p q r =
         let sizes = lentSizes (vertices t) (length (a .winners)) (length (a .moves)) (length work) in
         let fit = none-of-fit sizes (p, (q, (r, tt))) in
@@ -61,7 +62,7 @@ module _ (t : Tables) (a : Answer) where
     -- 11 to 14 are given to answers that are not right
     wrong : (k x : ℕ) → First (checkRows t a work) k x → Judging k → ¬ IsRight t a
     wrong k x f j r =
-        let before = first-front (beforeRows t a work) (judgeRows t a) k x (right-accepted (gameOf t) (markOf (a .winners)) (moveOf (a .moves)) r) f in
+        let before = first-front (beforeRows t a work) (judgeRows t a) k x (none-of-right t a r) f in
         let low : k < 11 = first-number (λ (m : ℕ). m < 11) (beforeRows t a work) k x (omega arith) before in
         omega (arith, j .least)
 
@@ -69,7 +70,7 @@ module _ (t : Tables) (a : Answer) where
     allowed (success values) n v =
         record {
           none = none-left (beforeRows t a work) (judgeRows t a) n;
-          right = accepted-right (gameOf t) (markOf (a .winners)) (moveOf (a .moves)) (none-right (beforeRows t a work) (judgeRows t a) n);
+          right = right-of-none t a (none-right (beforeRows t a work) (judgeRows t a) n);
           no-value = by-test (tests-same values []) v;
           zeroed = zeros-zeroed work;
         }

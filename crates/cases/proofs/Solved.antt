@@ -8,10 +8,11 @@ use lib.ListN.{length}
 use Rattle.refusal.specs.promise.Row.{Said, success, refused, row, Gives}
 use Rattle.refusal.proofs.Rows.{first-left}
 use Rattle.game.specs.promise.Tables.{Tables, vertices}
-use Rattle.game.specs.promise.Answer.{Answer}
+use Rattle.storage.specs.promise.Answer.{Answer}
 use Rattle.game.specs.promise.Faults.{tableRows}
-use Rattle.game.specs.promise.Lent.{Lent, Fault8, lentSizes}
-use Rattle.game.proofs.Lent.{lent-fits}
+use Rattle.game.specs.promise.Lent.{Fault8}
+use Rattle.storage.specs.promise.Lent.{Lent, lentSizes}
+use Rattle.storage.proofs.Passed.{lent-fits}
 use Rattle.winning.proofs.Reflect.{holds, tests-and}
 use Rattle.solver.specs.promise.Solving.{Solves, Answers}
 use Rattle.solver.proofs.Unique.{solves-unique}

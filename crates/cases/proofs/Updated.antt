@@ -9,7 +9,7 @@ use lib.Dec.{T, eqb}
 use lib.ListN.{getD}
 use Rattle.refusal.specs.promise.Row.{Said, success}
 use Rattle.game.specs.promise.Tables.{Tables, vertices, gameOf}
-use Rattle.game.specs.promise.Answer.{Answer, markOf, moveOf}
+use Rattle.storage.specs.promise.Answer.{Answer, markOf, moveOf}
 use Rattle.game.proofs.WellFormed.{none-applies}
 use Rattle.winning.proofs.Reflect.{Tests, tests-map, tests-and, tests-or, tests-eq}
 use Rattle.update.specs.promise.Updating.{Input, inputOf, Redone, OldLine, Updates, Decided}

@@ -9,13 +9,14 @@ use lib.ListN.{length, getD}
 use Rattle.refusal.specs.promise.Row.{Row, Said, success, refused, None, Gives}
 use Rattle.refusal.proofs.Rows.{none-append, first-left, first-right, first-not-none}
 use Rattle.game.specs.promise.Tables.{Tables, vertices, gameOf}
-use Rattle.game.specs.promise.Answer.{Answer, markOf, moveOf}
+use Rattle.storage.specs.promise.Answer.{Answer, winnerCells, markOf, moveOf}
+use Rattle.storage.specs.promise.Faults.{Fault11}
 use Rattle.game.specs.promise.Faults.{tableRows}
 use Rattle.winning.specs.parts.Verdict.{verdictOf}
 use Rattle.winning.proofs.Reflect.{Tests, holds, fails, tests-map, tests-and, tests-eq, tests-lt}
-use Rattle.winning.proofs.Accepted.{accepted-right, right-accepted}
 use Rattle.winning.proofs.Verdict.{verdict-gives}
 use Rattle.checker.specs.promise.Checking.{IsRight, judgeRows}
+use Rattle.checker.proofs.Verdicts.{right-of-none, none-of-right}
 use Rattle.cases.proofs.TableTests.{tableVerdict, table-gives}
 
 -- whether nothing is refused
@@ -62,7 +63,8 @@ module _ (t : Tables) (a : Answer) where
   abbrev pub isLong : Bool
   isLong = eqb (length (a .winners)) (vertices t) && eqb (length (a .moves)) (vertices t)
 
-  pub tests-long : Tests ((length (a .winners) ≡ vertices t) × (length (a .moves) ≡ vertices t)) isLong
+  pub tests-long : Tests ((length (a .winners) ≡ winnerCells (vertices t)) × (length (a .moves) ≡ vertices t)) isLong
+  unfolding winnerCells
   tests-long = tests-and (tests-eq (length (a .winners)) (vertices t)) (tests-eq (length (a .moves)) (vertices t))
 
   -- what 11 to 14 say of the answer
@@ -71,14 +73,13 @@ module _ (t : Tables) (a : Answer) where
 
   pub judged-gives : Gives (judgeRows t a) judged
   unfolding markOf moveOf
-  judged-gives = verdict-gives (gameOf t) (markOf (a .winners)) (moveOf (a .moves))
+  judged-gives =
+      verdict-gives (gameOf t) (markOf (a .winners)) (moveOf (a .moves)) (Fault11 (vertices t) (a .winners))
+      (λ x. ((λ f. (f .vertex, f .strange)), (λ p. record { vertex = p .0; strange = p .1 })))
 
   -- whether the answer is right
   abbrev pub isRight : Bool
   isRight = isSuccess judged
 
   pub tests-right : Tests (IsRight t a) isRight
-  tests-right =
-      let mark = markOf (a .winners) in
-      let move = moveOf (a .moves) in
-      tests-map (accepted-right (gameOf t) mark move) (right-accepted (gameOf t) mark move) (tests-none (judgeRows t a) judged judged-gives)
+  tests-right = tests-map (right-of-none t a) (none-of-right t a) (tests-none (judgeRows t a) judged judged-gives)

@@ -1,9 +1,2 @@
-pub mod Says
-pub mod Stretches
-pub mod Rounds
-pub mod Levels
-pub mod Comes
-pub mod Turns
-pub mod Prepared
 pub mod Verdicts
 pub mod Unique

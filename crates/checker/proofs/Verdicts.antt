@@ -11,13 +11,22 @@ use Rattle.refusal.specs.declared.Tested.{Tested}
 use Rattle.refusal.specs.declared.Tested.the-variants as tested
 use Rattle.refusal.proofs.Rows.{Given, whatever, first-right, first-not-none, first-number}
 use Rattle.game.specs.promise.Tables.{Tables, gameOf}
-use Rattle.game.specs.promise.Answer.{Answer, markOf, moveOf}
-use Rattle.game.specs.promise.Lent.{Judging, Zeroed}
+use Rattle.storage.specs.promise.Answer.{Answer, markOf, moveOf}
+use Rattle.storage.specs.promise.Lent.{Judging, Zeroed}
+use Rattle.storage.proofs.Stores.{marks-players, players-marks}
 use Rattle.winning.proofs.Accepted.{accepted-right, right-accepted}
 use Rattle.checker.specs.declared.Verdict.{Verdict}
 use Rattle.checker.specs.declared.Verdict.the-variants.{Accepted, Refused}
-use Rattle.checker.specs.promise.Checking.{verdictSaid, judgeRows, beforeRows, Checks}
+use Rattle.checker.specs.promise.Checking.{verdictSaid, IsRight, judgeRows, beforeRows, Checks}
 use Rattle.checker.specs.parts.Judging.{Judged}
+
+module _ (t : Tables) (a : Answer) where
+  -- none of 11 to 14 applies exactly if the answer is right
+  pub right-of-none : None (judgeRows t a) → IsRight t a
+  right-of-none n = accepted-right (gameOf t) (markOf (a .winners)) (moveOf (a .moves)) (record { players = marks-players (n .0); none = n .1 })
+
+  pub none-of-right : IsRight t a → None (judgeRows t a)
+  none-of-right r = let c = right-accepted (gameOf t) (markOf (a .winners)) (moveOf (a .moves)) r in (players-marks (c .players), c .none)
 
 module _ (t : Tables) (a : Answer) (work : List ℕ) where
   -- what `judge` gives
@@ -47,11 +56,11 @@ module _ (t : Tables) (a : Answer) (work : List ℕ) where
   -- what `judge` says
   pub checked-judged : (work′ : List ℕ) (v : Verdict) → None (beforeRows t a work) → Judged t a work work′ (verdictSaid v) → Checks t a work work′ (verdictSaid v)
   checked-judged work′ Accepted n j =
-      record { none = n; right = accepted-right (gameOf t) (markOf (a .winners)) (moveOf (a .moves)) (j .gives); no-value = refl; zeroed = j .zeroed }
+      record { none = n; right = right-of-none t a (j .gives); no-value = refl; zeroed = j .zeroed }
   checked-judged work′ (Refused r) n j =
       let k = numberOf (r .kind) in
       record {
         first = first-right (beforeRows t a work) (judgeRows t a) k (r .place) n (j .gives);
-        wrong = λ _ right. first-not-none (judgeRows t a) k (r .place) (j .gives) (right-accepted (gameOf t) (markOf (a .winners)) (moveOf (a .moves)) right);
+        wrong = λ _ right. first-not-none (judgeRows t a) k (r .place) (j .gives) (none-of-right t a right);
         leaves = record { zeroed = λ _. j .zeroed; same = λ h. absurd (h (high k (r .place) (j .gives))) };
       }

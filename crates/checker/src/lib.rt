@@ -1,23 +1,25 @@
 // The checker of answers: whether winners and moves, from anyone, are right for a game.
-use answers::open_escape;
-use answers::strange_mark;
-use answers::wrong_move;
-use cycles::lost_cycle;
-use game::buffers::test_lent;
-use reach::cells::fill;
+use answers::escapes::open_escape;
+use answers::moves::wrong_move;
+use cycles::lost::lost_cycle;
+use game::EDGES;
+use preds::INS;
+use preds::build::predecessors;
 use refusal::AnswerFault;
 use refusal::Kind;
 use refusal::Refusal;
 use refusal::Tested;
 use refusal::or;
+use space::fill::fill;
+use storage::Winner;
+use storage::lent::test_lent;
+use storage::marks::strange_mark;
 ghost use mathlib.Core.Path.{_≡_};
 ghost use Rattle.refusal.specs.parts.Found.{testedSaid};
-ghost use Rattle.game.specs.promise.Lent.{asked, lent, claim, claimed};
+ghost use Rattle.game.specs.promise.Lent.{asked, lent};
+ghost use Rattle.storage.specs.promise.Lent.{claim, claimed};
 ghost use Rattle.checker.specs.promise.Checking.{Checks, verdictSaid};
-ghost use Rattle.checker.specs.parts.Judging.{Judgeable, Judged};
-
-mod answers;
-mod cycles;
+ghost use Rattle.checker.specs.parts.Judging.{PassedTo11, Judgeable, Judged};
 
 // Accepted, or the first of 1 to 8 and 11 to 14 that applies.
 pub enum Verdict {
@@ -35,21 +37,23 @@ fn as_verdict(said: Tested) -> Verdict
     }
 }
 
-// 11 to 14, each over all vertices before the next, on an answer to a game that has passed 1 to 8.
+// 11 to 14, each over all vertices before the next, on an answer to a game that has passed 1 to 8, with the game's predecessor lists.
 pub fn judge(
     owners: &[u8],
     priorities: &[u8],
     starts: &[u16],
     targets: &[u16],
-    winners: &[u8],
+    winners: &[Winner],
     moves: &[u16],
+    ins: &[u16],
+    froms: &[u16],
     work: &mut [u16],
 ) -> Verdict
-    requires { ⌜ Judgeable (asked owners priorities starts targets) (claim winners moves) (now work) ⌝ }
+    requires { ⌜ Judgeable (asked owners priorities starts targets) (claim winners moves) (now ins) (now froms) (now work) ⌝ }
     ensures { λ r. ⌜ Judged (lent owners priorities starts targets) (claimed winners moves) (now (work .entry)) (now (work .exit)) (verdictSaid r) ⌝ }
 {
     fill(work, 0);
-    let strange = strange_mark(owners, priorities, starts, targets, winners, moves);
+    let strange = strange_mark(owners.len(), winners);
     let one = or(Tested::Passed, strange, Kind::Claim(AnswerFault::Mark));
     let wrong = wrong_move(owners, priorities, starts, targets, winners, moves);
     let two = or(one, wrong, Kind::Claim(AnswerFault::Move));
@@ -58,8 +62,47 @@ pub fn judge(
     if let Tested::Refused(r) = three {
         return Verdict::Refused(r);
     }
-    let lost = lost_cycle(owners, priorities, starts, targets, winners, moves, work);
+    let lost = lost_cycle(
+        owners,
+        priorities,
+        starts,
+        targets,
+        winners,
+        moves,
+        ins,
+        froms,
+        work,
+    );
     as_verdict(or(three, lost, Kind::Claim(AnswerFault::Cycle)))
+}
+
+// The same with predecessor lists that are made for this one answer.
+fn judge_alone(
+    owners: &[u8],
+    priorities: &[u8],
+    starts: &[u16],
+    targets: &[u16],
+    winners: &[Winner],
+    moves: &[u16],
+    work: &mut [u16],
+) -> Verdict
+    requires { ⌜ PassedTo11 (asked owners priorities starts targets) (claim winners moves) (now work) ⌝ }
+    ensures { λ r. ⌜ Judged (lent owners priorities starts targets) (claimed winners moves) (now (work .entry)) (now (work .exit)) (verdictSaid r) ⌝ }
+{
+    let mut ins = [0u16; INS];
+    let mut froms = [0u16; EDGES];
+    predecessors(owners, priorities, starts, targets, &mut ins, &mut froms);
+    judge(
+        owners,
+        priorities,
+        starts,
+        targets,
+        winners,
+        moves,
+        &ins,
+        &froms,
+        work,
+    )
 }
 
 // Whether the answer is right for the game: the first of 1 to 8 and 11 to 14 that applies, or acceptance.
@@ -68,7 +111,7 @@ pub fn check(
     priorities: &[u8],
     starts: &[u16],
     targets: &[u16],
-    winners: &[u8],
+    winners: &[Winner],
     moves: &[u16],
     work: &mut [u16],
 ) -> Verdict
@@ -86,5 +129,5 @@ pub fn check(
     if let Tested::Refused(r) = tested {
         return Verdict::Refused(r);
     }
-    judge(owners, priorities, starts, targets, winners, moves, work)
+    judge_alone(owners, priorities, starts, targets, winners, moves, work)
 }

@@ -1,2 +1,2 @@
 pub mod Stretch
-pub mod Answers
+pub mod Lengths

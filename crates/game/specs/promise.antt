@@ -1,5 +1,4 @@
 pub mod Game
 pub mod Tables
 pub mod Faults
-pub mod Answer
 pub mod Lent

@@ -2,23 +2,21 @@
 use Prim.Native.Nat.{ℕ}
 use mathlib.Core.Path.{_≡_, ap, sym, _∙_}
 use mathlib.Core.List.{List}
-use lib.Seq.{ext-getD}
 use Rattle.refusal.specs.promise.Row.{Said, success, refused}
 use Rattle.refusal.proofs.Rows.{first-not-none, first-unique}
 use Rattle.game.specs.promise.Tables.{Tables, tablesOf}
 use Rattle.housefile.specs.promise.Faults.{fileRows}
-use Rattle.housefile.specs.promise.Reading.{Padded, Holding, Reads}
+use Rattle.decoding.specs.promise.Holding.{Holding}
+use Rattle.housefile.specs.promise.Reading.{Reads}
+use Rattle.decoding.proofs.Padding.{padded-unique}
 
--- a table that holds a list is determined by it, and so are the four
-padded-unique : (size : ℕ) (list a b : List ℕ) → Padded size list a → Padded size list b → a ≡ b
-padded-unique size list a b x y = ext-getD 0 a b (x .long ∙ sym (y .long)) (λ i l. x .same i ∙ sym (y .same i))
-
+-- tables that hold four lists are determined by them
 holding-unique : (t a b : Tables) → Holding t a → Holding t b → a ≡ b
 holding-unique t a b x y =
-    let o = padded-unique _ _ (a .owners) (b .owners) (x .owners) (y .owners) in
-    let p = padded-unique _ _ (a .priorities) (b .priorities) (x .priorities) (y .priorities) in
-    let s = padded-unique _ _ (a .starts) (b .starts) (x .starts) (y .starts) in
-    let e = padded-unique _ _ (a .targets) (b .targets) (x .targets) (y .targets) in
+    let o = padded-unique (x .owners) (y .owners) in
+    let p = padded-unique (x .priorities) (y .priorities) in
+    let s = padded-unique (x .starts) (y .starts) in
+    let e = padded-unique (x .targets) (y .targets) in
     λ i. tablesOf (o i) (p i) (s i) (e i)
 
 module _ (file : List ℕ) (lent t u : Tables) where

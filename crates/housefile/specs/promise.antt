@@ -1,4 +1,2 @@
-pub mod Format
-pub mod Filed
 pub mod Faults
 pub mod Reading

@@ -1,12 +1,6 @@
 // The reader of the house game file.
-mod block;
-mod blocks;
-mod bytes;
-mod head;
-mod places;
+mod copy;
 pub mod reader;
-mod values;
-mod write;
 
 use refusal::Refusal;
 

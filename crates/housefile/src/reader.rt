@@ -1,11 +1,9 @@
-// The entry point: the rows in their order, and then the tables.
+// The entry point: what is judged, and then the tables.
 use crate::Header;
 use crate::Read;
-use crate::blocks;
-use crate::bytes;
-use crate::head;
-use crate::values;
-use crate::write;
+use crate::copy;
+use blocks::bytes;
+use decoding::judge::judge;
 use game::EDGES;
 use game::VERTICES;
 use game::buffers::compare;
@@ -13,22 +11,58 @@ use refusal::Found;
 use refusal::Kind;
 use refusal::Tested;
 use refusal::or;
+ghost use mathlib.Core.Path.{_≡_};
+ghost use Prim.Native.Nat.{_≤_};
+ghost use lib.ListN.{length};
 ghost use Rattle.refusal.specs.parts.Found.{Finds};
-ghost use Rattle.game.specs.promise.Lent.{Fault8, lent, written};
-ghost use Rattle.housefile.specs.promise.Faults.{tableSizes};
+ghost use Rattle.game.specs.promise.Lent.{Fault8, asked, lent, written};
+ghost use Rattle.blocks.specs.promise.Filed.{verticesFiled, edgesFiled};
+ghost use Rattle.housefile.specs.promise.Faults.{lentLengths};
 ghost use Rattle.housefile.specs.promise.Reading.{Reads, readSaid};
+ghost use Rattle.housefile.specs.parts.Storing.{SameLengths, Stored};
 
 // 8: the lengths of the lent tables.
-fn lengths(owners: &[u8], priorities: &[u8], starts: &[u16], targets: &[u16]) -> Found
-    ensures { λ r. ⌜ Finds (Fault8 (tableSizes (lent owners priorities starts targets))) r ⌝ }
+fn lengths(owners: usize, priorities: usize, starts: usize, targets: usize) -> Found
+    ensures { λ r. ⌜ Finds (Fault8 (lentLengths owners priorities starts targets)) r ⌝ }
 {
-    let edges = compare(Found::Nowhere, targets.len(), EDGES);
-    let bounds = compare(edges, starts.len(), 2049);
-    let ranks = compare(bounds, priorities.len(), VERTICES);
-    compare(ranks, owners.len(), VERTICES)
+    let edges = compare(Found::Nowhere, targets, EDGES);
+    let bounds = compare(edges, starts, 2049);
+    let ranks = compare(bounds, priorities, VERTICES);
+    compare(ranks, owners, VERTICES)
 }
 
-// The blocks are read only once the header has passed, the values only once the blocks have. The tables are written only once every refusal is excluded.
+// Four tables over the lent ones of their lengths.
+fn store(
+    own: &[u8],
+    ranks: &[u8],
+    bounds: &[u16],
+    ends: &[u16],
+    owners: &mut [u8],
+    priorities: &mut [u8],
+    starts: &mut [u16],
+    targets: &mut [u16],
+)
+    requires { ⌜ SameLengths (asked own ranks bounds ends) (asked owners priorities starts targets) ⌝ }
+    ensures { λ _. ⌜ Stored (lent own ranks bounds ends) (written owners priorities starts targets) ⌝ }
+{
+    copy::bytes(own, owners);
+    copy::bytes(ranks, priorities);
+    copy::words(bounds, starts);
+    copy::words(ends, targets);
+}
+
+// What is said of a file that is read.
+fn header(file: &[u8]) -> Header
+    requires { ⌜ 512 ≤ length (now file) ⌝ }
+    ensures { λ r. ⌜ (r .vertices ≡ verticesFiled (now (file .entry))) × (r .edges ≡ edgesFiled (now (file .entry))) ⌝ }
+{
+    Header {
+        vertices: bytes::vertices(file),
+        edges: bytes::edges(file),
+    }
+}
+
+// The lent tables are written only once every refusal is excluded: what is judged is read into tables of the reader's own.
 pub fn read(
     file: &[u8],
     owners: &mut [u8],
@@ -38,26 +72,25 @@ pub fn read(
 ) -> Read
     ensures { λ r. ⌜ Reads (now (file .entry)) (lent owners priorities starts targets) (written owners priorities starts targets) (readSaid r) ⌝ }
 {
-    let head = head::head(file);
-    if let Tested::Refused(r) = head {
-        return Read::Refused(r);
-    }
-    let blocks = blocks::blocks(file);
-    if let Tested::Refused(r) = blocks {
-        return Read::Refused(r);
-    }
-    let filed = values::filed(file);
-    let lengths = lengths(owners, priorities, starts, targets);
-    let tested = or(filed, lengths, Kind::Buffer);
+    let mut own = [0u8; VERTICES];
+    let mut ranks = [0u8; VERTICES];
+    let mut bounds = [0u16; 2049];
+    let mut ends = [0u16; EDGES];
+    let judged = judge(file, &mut own, &mut ranks, &mut bounds, &mut ends);
+    let lengths = lengths(owners.len(), priorities.len(), starts.len(), targets.len());
+    let tested = or(judged, lengths, Kind::Buffer);
     if let Tested::Refused(r) = tested {
         return Read::Refused(r);
     }
-    write::owners(file, owners);
-    write::priorities(file, priorities);
-    write::starts(file, starts);
-    write::targets(file, targets);
-    Read::Game(Header {
-        vertices: bytes::vertices(file),
-        edges: bytes::edges(file),
-    })
+    store(
+        &own,
+        &ranks,
+        &bounds,
+        &ends,
+        owners,
+        priorities,
+        starts,
+        targets,
+    );
+    Read::Game(header(file))
 }

@@ -27,4 +27,4 @@ module _ (g : Game) (mark move settled : ℕ → ℕ) (safe : Safe g mark move s
       (sym (safe .good x (r .0) (supported x (r .0) (r .1)) (map-walk (λ a b s. record { taken = supported a b (s .taken); low = s .low }) (r .2))))
 
   pub finished : Accepted g mark move
-  finished = (λ x f. f .strange (safe .player x (f .vertex)), (move-right, (no-escape, (cycles-won, tt))))
+  finished = record { players = safe .player; none = (move-right, (no-escape, (cycles-won, tt))) }

@@ -92,7 +92,7 @@ module _
         let c = cycle-of g (Recorded g old-mark old-move) v w (recorded k s) back in
         start .kept-mark v l k ∙
         sym (Dec·not-not (ℕ-discrete (parityOf (g .priority v)) (old-mark v)) .0
-        (λ lost. accepted .1 .1 .1 .0 v (record { rest = c .0; cycle = c .1; own-highest = c .2; lost = lost }))) ∙
+        (λ lost. accepted .none .1 .1 .0 v (record { rest = c .0; cycle = c .1; own-highest = c .2; lost = lost }))) ∙
         ap parityOf level
       where
         lower : {p : ℕ} (x y : ℕ) → Low h (Support h mark move settled) p x y → K x → Low g (Recorded g old-mark old-move) p x y × K y

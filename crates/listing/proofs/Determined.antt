@@ -9,32 +9,30 @@ use lib.ListN.{getD}
 use Rattle.refusal.specs.promise.Row.{refused}
 use Rattle.refusal.proofs.Rows.{first-unique, first-not-none}
 use Rattle.game.specs.promise.Tables.{Tables, vertices, gameOf, WellFormed}
-use Rattle.game.specs.promise.Answer.{Answer, markOf, moveOf}
+use Rattle.storage.specs.promise.Answer.{Answer, markOf, moveOf}
 use Rattle.winning.specs.promise.Answer.{noMove}
 use Rattle.winning.proofs.Solutions.{solutions-same}
 use Rattle.solver.specs.promise.Solving.{IsSolution}
-use Rattle.housefile.specs.promise.Filed.{verticesFiled, edgesFiled, tablesFiled}
-use Rattle.housefile.specs.promise.Faults.{judgedRows}
-use Rattle.housefile.proofs.Accepted.{judged-well-formed}
-use Rattle.housefile.proofs.Lists.{owners-long}
-use Rattle.listing.specs.promise.Text.{gameLine, refusedLine}
+use Rattle.blocks.specs.promise.Filed.{verticesFiled, edgesFiled, tablesFiled}
+use Rattle.blocks.specs.promise.Faults.{judgedRows}
+use Rattle.filing.proofs.Accepted.{judged-well-formed}
+use Rattle.blocks.proofs.Lists.{owners-long}
+use Rattle.lines.specs.promise.Lines.{gameLine, refusedLine}
 use Rattle.listing.specs.promise.Listing.{Lists, Agree}
-use Rattle.listing.proofs.Alike.{Alike, alike-itself, lines-alike}
+use Rattle.lines.proofs.Alike.{Alike, alike-itself, lines-alike}
 
 -- two solutions of a well-formed game
 module _ (t : Tables) (w : WellFormed t) (a b : Answer) (x : IsSolution t a) (y : IsSolution t b) where
   marks : (v : ℕ) → v < vertices t → markOf (a .winners) v ≡ markOf (b .winners) v
   marks = solutions-same (gameOf t) (w .sound) (w .moving) (markOf (a .winners)) (moveOf (a .moves)) (markOf (b .winners)) (moveOf (b .moves)) x y
 
-  winners-alike : Alike (vertices t) (b .winners) (a .winners)
-  unfolding markOf
+  winners-alike : Alike markOf (vertices t) (b .winners) (a .winners)
   winners-alike = record { same = λ v l. sym (marks v l) }
 
   -- where the winner owns, a move is a vertex; elsewhere it is none
-  dashes : (v : ℕ) → v < vertices t → (getD (a .moves) v 0 ≡ noMove) ↔ (getD (b .moves) v 0 ≡ noMove)
-  unfolding markOf moveOf
+  dashes : (v : ℕ) → v < vertices t → (moveOf (a .moves) v ≡ noMove) ↔ (moveOf (b .moves) v ≡ noMove)
   dashes v l =
-      elim (ℕ-discrete (getD (t .owners) v 0) (getD (a .winners) v 0)) [
+      elim (ℕ-discrete (getD (t .owners) v 0) (markOf (a .winners) v)) [
         | yes e ↦
             let p = x .form .successor v l e .to in
             let q = y .form .successor v l (e ∙ marks v l) .to in
@@ -58,7 +56,7 @@ lists-agree file bytes (inl x) (inl y) =
           y .is ∙
           ap (λ (l : List ℕ). gameLine (verticesFiled file) (edgesFiled file) ++ l)
           (lines-alike (verticesFiled file) alike-itself alike-itself
-          (subst (λ (n : ℕ). Alike n (y .answer .winners) (x .answer .winners)) (owners-long file) (winners-alike _ w (x .answer) (y .answer) (x .solution) (y .solution))) alike-itself);
+          (subst (λ (n : ℕ). Alike markOf n (y .answer .winners) (x .answer .winners)) (owners-long file) (winners-alike _ w (x .answer) (y .answer) (x .solution) (y .solution))) alike-itself);
       dashes = λ v l. dashes _ w (x .answer) (y .answer) (x .solution) (y .solution) v (subst (λ (n : ℕ). v < n) (sym (owners-long file)) l);
     })
 lists-agree file bytes (inl x) (inr y) = absurd (first-not-none (judgedRows file) (y .number) (y .place) (y .first) (x .none))

@@ -16,26 +16,43 @@ use Rattle.game.proofs.Sizes.{none-of-fit}
 use Rattle.housefile.specs.declared.Header.{Header}
 use Rattle.housefile.specs.declared.Read.{Read}
 use Rattle.housefile.specs.declared.Read.the-variants.{Game, Refused}
-use Rattle.housefile.specs.promise.Filed.{verticesFiled, edgesFiled, ruleFiled, prioritiesFiled, tablesFiled}
-use Rattle.housefile.specs.promise.Faults.{judgedRows, tableSizes}
-use Rattle.housefile.specs.promise.Reading.{Padded, Taken, readSaid, Reads}
-use Rattle.housefile.proofs.AllRows.{all-judged}
-use Rattle.housefile.proofs.Lists.{owners-long, priorities-long, starts-long, targets-long}
-use Rattle.housefile.proofs.Turning.{turned-long}
-use Rattle.housefile.proofs.Accepted.{read-well-formed}
-use Rattle.listing.specs.promise.Text.{refusedLine}
+use Rattle.blocks.specs.promise.Filed.{verticesFiled, edgesFiled, ruleFiled, prioritiesFiled, tablesFiled}
+use Rattle.housefile.specs.promise.Faults.{tableSizes}
+use Rattle.blocks.specs.promise.Faults.{judgedRows}
+use Rattle.housefile.specs.promise.Reading.{Taken, readSaid, Reads}
+use Rattle.decoding.specs.promise.Holding.{Padded}
+use Rattle.housefile.proofs.LentRows.{all-judged}
+use Rattle.blocks.proofs.Lists.{owners-long, priorities-long, starts-long, targets-long}
+use Rattle.blocks.proofs.Turning.{turned-long}
+use Rattle.housefile.proofs.Exactly.{read-well-formed}
+use Rattle.lines.specs.promise.Lines.{refusedLine}
 use Rattle.listing.specs.promise.Listing.{gameText, SetDown}
-use Rattle.listing.specs.parts.Append.{Room, Appended}
-use Rattle.listing.specs.parts.Answering.{frontOf, Tabled, AnswerListed}
-use Rattle.listing.proofs.Appending.{appended-within}
-use Rattle.listing.proofs.Widths.{refused-line-most}
-use Rattle.listing.proofs.Judging.{printable}
+use Rattle.text.specs.parts.Append.{Room, Appended}
+use Rattle.listing.specs.parts.Answering.{frontOf, Tabled, AnswerListed, Tellable, Told}
+use Rattle.text.proofs.Appending.{appended-within}
+use Rattle.lines.proofs.Widths.{refused-line-most}
 
 -- the used part of a table that holds a list is the list
 used : (size : ℕ) (list table : List ℕ) (k : ℕ) → Padded size list table → length list ≡ k → k ≤ size → take k table ≡ list
 used size list table k h e l =
     let long : length (take k table) ≡ k = length-take-le k table (omega (arith, h .long)) in
     ext-getD 0 (take k table) list (long ∙ sym e) (λ i m. getD-take k table i 0 (omega arith) ∙ h .same i)
+
+-- by the case that was read, what its telling needs and gives
+
+pub game-tabled : (said : Read) (t : Tables) (h : Header) → said ≡ Game h → Tellable said t → Tabled (h .vertices) (h .edges) t
+game-tabled said t h e = subst (λ (x : Read). Tellable x t) e
+
+module _ (said : Read) (t : Tables) where
+  pub told-game : {before after : List ℕ} {r : ℕ} (h : Header) → said ≡ Game h → AnswerListed (frontOf (h .vertices) (h .edges) t) before after r → Told said t before after r
+  told-game {before} {after} {r} h e = subst (λ (x : Read). Told x t before after r) (sym e)
+
+  pub told-refused : {before after : List ℕ} {r : ℕ} (f : Refusal) → said ≡ Refused f → Appended before after 0 (refusedLine (numberOf (f .kind)) (f .place)) r → Told said t before after r
+  told-refused {before} {after} {r} f e = subst (λ (x : Read). Told x t before after r) (sym e)
+
+-- the line of a refusal fits
+pub refused-room : (text : List ℕ) (number place : ℕ) → length text ≡ 36880 → Room text 0 (refusedLine number place)
+refused-room text number place long = record { room = omega (arith, refused-line-most number place) }
 
 module _ (file : List ℕ) (before after : Tables) (bytes : (i : ℕ) → getD file i 0 < 256) where
   -- the case of success
@@ -89,37 +106,25 @@ module _ (file : List ℕ) (before after : Tables) (bytes : (i : ℕ) → getD f
           past = b .done .past;
         }
 
-  module _ (said : Read) (r : Reads file before after (readSaid said)) where
-    -- by what the reader says
+  -- the case of refusal
+  first-judged : (f : Refusal) → Fit (tableSizes before) → Reads file before after (readSaid (Refused f)) → First (judgedRows file) (numberOf (f .kind)) (f .place)
+  first-judged f fit r =
+      first-front (judgedRows file) (row 8 (Fault8 (tableSizes before)) ∷ []) (numberOf (f .kind)) (f .place) (none-of-fit (tableSizes before) fit, tt) (r .first)
 
-    abbrev taken : (h : Header) → said ≡ Game h → Taken file before after (h .vertices ∷ h .edges ∷ [])
-    taken h e = subst (λ (x : Read). Reads file before after (readSaid x)) e r
+  refused-set-down : {text text′ : List ℕ} {n : ℕ} (f : Refusal) → First (judgedRows file) (numberOf (f .kind)) (f .place) → length text ≡ 36880 → Appended text text′ 0 (refusedLine (numberOf (f .kind)) (f .place)) n → SetDown file text text′ n
+  refused-set-down f first long a =
+      record {
+        within = appended-within _ (refused-room _ _ _ long) a;
+        lists = inr (record { number = numberOf (f .kind); place = f .place; first = first; is = a .is });
+        past = a .past;
+      }
 
-    pub read-tabled : (h : Header) → said ≡ Game h → Tabled (h .vertices) (h .edges) after
-    read-tabled h e = tabled h (taken h e)
+  -- by what the reader says
 
-    pub read-set-down : {text text′ : List ℕ} {k : ℕ} (h : Header) → said ≡ Game h → AnswerListed (frontOf (h .vertices) (h .edges) after) text text′ k → SetDown file text text′ k
-    read-set-down h e a = game-set-down h (taken h e) a
+  pub tellable : (said : Read) → Reads file before after (readSaid said) → Tellable said after
+  tellable (Game h) r = tabled h r
+  tellable (Refused f) r = tt
 
-    module _ (f : Refusal) (fit : Fit (tableSizes before)) (e : said ≡ Refused f) where
-      first : First (judgedRows file) (numberOf (f .kind)) (f .place)
-      first =
-          first-front (judgedRows file) (row 8 (Fault8 (tableSizes before)) ∷ []) (numberOf (f .kind)) (f .place) (none-of-fit (tableSizes before) fit, tt)
-          (subst (λ (x : Read). Reads file before after (readSaid x)) e r .first)
-
-      module _ (short : length file ≤ 43520) (text : List ℕ) (long : length text ≡ 36880) where
-        pub refused-room : Room text 0 (refusedLine (numberOf (f .kind)) (f .place)) × (numberOf (f .kind) < 100000) × (f .place < 100000)
-        refused-room =
-            let p = printable file bytes short (numberOf (f .kind)) (f .place) first in (
-              record { room = omega (arith, refused-line-most (numberOf (f .kind)) (f .place) (p .number-low)) },
-              omega (arith, p .number-low),
-              omega (arith, p .place-low),
-            )
-
-        pub refused-set-down : {text′ : List ℕ} {n : ℕ} → Appended text text′ 0 (refusedLine (numberOf (f .kind)) (f .place)) n → SetDown file text text′ n
-        refused-set-down a =
-            record {
-              within = appended-within _ (refused-room .0) a;
-              lists = inr (record { number = numberOf (f .kind); place = f .place; first = first; is = a .is });
-              past = a .past;
-            }
+  pub told-set-down : (said : Read) → Reads file before after (readSaid said) → Fit (tableSizes before) → {text text′ : List ℕ} {k : ℕ} → length text ≡ 36880 → Told said after text text′ k → SetDown file text text′ k
+  told-set-down (Game h) r fit long a = game-set-down h r a
+  told-set-down (Refused f) r fit long a = refused-set-down f (first-judged f fit r) long a

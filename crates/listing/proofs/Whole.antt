@@ -1,103 +1,83 @@
 -- The lines of a game that was read, with a solution: that they fit into the text, and that they are its listing.
 use Prim.Native.Nat.{ℕ, _*_, _<_, _≤_}
-use mathlib.Core.Path.{_≡_, sym, ap, ap₂, subst, _∙_}
+use mathlib.Core.Path.{_≡_, sym, ap, subst}
 use mathlib.Core.Logic.{_⊎_, inl, inr}
 use mathlib.Core.List.{List, _++_}
 use native.Mathlib.Omega.{arith}
+use native.Mathlib.Nat.{le-refl}
 use native.Mathlib.Decide.{ℕ-discrete}
-use lib.ListN.{length, take, getD}
-use lib.Seq.{length-take-le}
-use Rattle.game.specs.promise.Tables.{Tables, vertices}
-use Rattle.game.specs.promise.Answer.{Answer, markOf, moveOf}
-use Rattle.game.specs.promise.Lent.{Lent}
+use lib.ListN.{length, getD, length-append}
+use Rattle.game.specs.promise.Tables.{Tables, vertices, WellFormed}
+use Rattle.storage.specs.promise.Answer.{Answer, markOf, moveOf}
 use Rattle.solver.specs.promise.Solving.{IsSolution}
-use Rattle.listing.specs.promise.Text.{gameLine, vertexLines}
-use Rattle.listing.specs.promise.Listing.{gameText}
-use Rattle.listing.specs.parts.Append.{Room, Appended}
-use Rattle.listing.specs.parts.Answering.{frontOf, answerFront, Listable, Tabled, Solvable, AnsweredHere, AnswerListed}
-use Rattle.listing.proofs.Alike.{alike-front, lines-alike}
-use Rattle.listing.proofs.Appending.{appended-both, appended-as, appended-within}
-use Rattle.listing.proofs.Widths.{Narrow, game-line-most, lines-most}
+use Rattle.lines.specs.promise.Lines.{gameLine, vertexLines}
+use Rattle.text.specs.parts.Append.{Room, Appended}
+use Rattle.listing.specs.parts.Answering.{AnswerListed}
+use Rattle.listing.proofs.Answers.{answerFront, AnsweredHere}
+use Rattle.lines.specs.parts.Listable.{Listable}
+use Rattle.lines.proofs.Alike.{alike-itself, alike-marks, alike-moves, lines-alike}
+use Rattle.text.proofs.Appending.{appended-as, appended-within}
+use Rattle.lines.proofs.Widths.{Narrow, game-line-most, lines-most}
 
 -- a solution's winners and moves
 module _ (t : Tables) (a : Answer) (s : IsSolution t a) where
-  winner-low : (v : ℕ) → v < vertices t → getD (a .winners) v 0 < 2
-  unfolding markOf
+  winner-low : (v : ℕ) → v < vertices t → markOf (a .winners) v < 2
   winner-low v l = s .form .winner v l
 
-  move-low : vertices t ≤ 2048 → (v : ℕ) → v < vertices t → (getD (a .moves) v 0 ≡ 65535) ⊎ (getD (a .moves) v 0 < 2048)
-  unfolding markOf moveOf
+  move-low : vertices t ≤ 2048 → (v : ℕ) → v < vertices t → (moveOf (a .moves) v ≡ 65535) ⊎ (moveOf (a .moves) v < 2048)
   move-low few v l =
-      elim (ℕ-discrete (getD (t .owners) v 0) (getD (a .winners) v 0)) [
+      elim (ℕ-discrete (getD (t .owners) v 0) (markOf (a .winners) v)) [
         | yes e ↦ inr (let to = s .form .successor v l e .to in omega (arith, to))
         | no e ↦ inl (s .form .elsewhere v l e)
       ]
 
-module _ (n m : ℕ) (t : Tables) (d : Tabled n m t) where
-  n-is : vertices (frontOf n m t) ≡ n
-  n-is = length-take-le n (t .owners) (d .owners-long)
+module _ (t : Tables) (f : WellFormed t) where
+  few : vertices t ≤ 2048
+  few = f .sound .few
 
-  m-is : length (frontOf n m t .targets) ≡ m
-  m-is = length-take-le m (t .targets) (d .targets-long)
+  -- the first line
+  abbrev first : List ℕ
+  first = gameLine (vertices t) (length (t .targets))
 
-  few : n ≤ 2048
-  few = omega (arith, n-is, d .well-formed .sound .few)
+  first-long : length first ≤ 16
+  first-long = game-line-most _ _ (omega (arith, few)) (omega (arith, f .edges))
 
-  pub solvable : {l : Lent} → length (l .answer .winners) ≡ 2048 → length (l .answer .moves) ≡ 2048 → length (l .work) ≡ 8192 → Solvable n m t l
-  solvable w v k = record { tabled = d; winners-long = omega (arith, few); moves-long = omega (arith, few); work-long = omega (arith, few) }
+  module _ (a : Answer) (h : AnsweredHere t a) where
+    pub listable : Listable (vertices t) (t .owners) (t .priorities) (a .winners) (a .moves)
+    listable = record { owners-long = le-refl _; priorities-long = omega (arith, f .level); winners-long = h .winners-long; moves-long = h .moves-long }
 
-  pub n-low : n < 100000
-  n-low = omega (arith, few)
-
-  pub m-low : m < 100000
-  m-low = omega (arith, m-is, d .well-formed .edges)
-
-  pub game-room : (text : List ℕ) → length text ≡ 36880 → Room text 0 (gameLine n m)
-  game-room text e = record { room = omega (arith, game-line-most n m (omega (arith, few))) }
-
-  module _ (a : Answer) (h : AnsweredHere n m t a) where
-    pub listable : Listable n (t .owners) (t .priorities) (a .winners) (a .moves)
-    listable = record { few = few; owners-long = d .owners-long; priorities-long = d .priorities-long; winners-long = h .winners-long; moves-long = h .moves-long }
-
-    -- the lines that are written, and those of the lists' beginnings
+    -- the lines that are written, and those of the answer's beginning
 
     abbrev lines : List ℕ
-    lines = vertexLines (t .owners) (t .priorities) (a .winners) (a .moves) n
+    lines = vertexLines (t .owners) (t .priorities) (a .winners) (a .moves) (vertices t)
 
-    abbrev front : List ℕ
-    front = vertexLines (take n (t .owners)) (take n (t .priorities)) (take n (a .winners)) (take n (a .moves)) n
+    abbrev front : Answer
+    front = answerFront (vertices t) a
 
-    lines-are : lines ≡ front
-    lines-are = lines-alike n alike-front alike-front alike-front alike-front
+    lines-are : lines ≡ vertexLines (t .owners) (t .priorities) (front .winners) (front .moves) (vertices t)
+    lines-are = lines-alike (vertices t) alike-itself alike-itself alike-marks alike-moves
 
-    narrow : (v : ℕ) → v < n → Narrow (take n (t .owners)) (take n (t .priorities)) (take n (a .winners)) (take n (a .moves)) v
+    narrow : (v : ℕ) → v < vertices t → Narrow (t .owners) (t .priorities) (front .winners) (front .moves) v
     narrow v l =
-        let k : v < vertices (frontOf n m t) = subst (λ (x : ℕ). v < x) (sym n-is) l in
-        let sound = d .well-formed .sound in
         record {
           vertex = omega (arith, few);
-          owner = omega (arith, sound .owned v k);
-          priority = omega (arith, sound .ranked v k);
-          winner = omega (arith, winner-low (frontOf n m t) (answerFront n a) (h .solution) v k);
-          move = move-low (frontOf n m t) (answerFront n a) (h .solution) (sound .few) v k;
+          owner = omega (arith, f .sound .owned v l);
+          priority = omega (arith, f .sound .ranked v l);
+          winner = omega (arith, winner-low t front (h .solution) v l);
+          move = move-low t front (h .solution) few v l;
         }
 
-    lines-long : length lines ≤ 18 * n
-    lines-long = subst (λ (x : List ℕ). length x ≤ 18 * n) (sym lines-are) (lines-most _ _ _ _ n narrow)
+    lines-long : length lines ≤ 18 * vertices t
+    lines-long = subst (λ (x : List ℕ). length x ≤ 18 * vertices t) (sym lines-are) (lines-most _ _ _ _ (vertices t) narrow)
 
-    module _ {text text1 : List ℕ} {at : ℕ} (e : length text ≡ 36880) (p : Appended text text1 0 (gameLine n m) at) where
-      pub lines-room : Room text1 at lines
-      lines-room = record { room = omega (arith, lines-long, few, game-line-most n m (omega (arith, few)), p .long, p .ends) }
+    pub whole-room : {text : List ℕ} → length text ≡ 36880 → Room text 0 (first ++ lines)
+    whole-room e = record { room = omega (arith, length-append first lines, lines-long, few, first-long) }
 
-      pub answer-listed : {text2 : List ℕ} {r : ℕ} → Appended text1 text2 at lines r → AnswerListed (frontOf n m t) text text2 r
-      answer-listed q =
-          record {
-            answer = answerFront n a;
-            solution = h .solution;
-            within = appended-within lines lines-room q;
-            done =
-                appended-as
-                (ap (λ (x : List ℕ). gameLine n m ++ x) lines-are ∙
-                ap₂ (λ (i j : ℕ). gameText i j (frontOf n m t) (answerFront n a)) (sym n-is) (sym m-is))
-                (appended-both (gameLine n m) lines p q);
-          }
+    pub answer-listed : {text text′ : List ℕ} {r : ℕ} → length text ≡ 36880 → Appended text text′ 0 (first ++ lines) r → AnswerListed t text text′ r
+    answer-listed e p =
+        record {
+          answer = front;
+          solution = h .solution;
+          within = appended-within (first ++ lines) (whole-room e) p;
+          done = appended-as (ap (λ (x : List ℕ). first ++ x) lines-are) p;
+        }

@@ -1,27 +1,18 @@
 // Lists the game file on standard input: its game with winners and moves, or its refusal.
-mod lines;
 mod list;
-mod text;
 
 use crate::list::list;
 use libc::STDIN_FILENO;
 use libc::STDOUT_FILENO;
 ghost use Prim.Native.Nat.{_≤_};
-ghost use mathlib.Core.Path.{_≡_};
 ghost use lib.ListN.{length};
 
 // Prints the listing of the first n bytes, in one write.
 fn show(file: &[u8], n: usize)
-    requires { ⌜ (n ≤ length (now file)) × (length (now file) ≡ 43520) ⌝ }
+    requires { ⌜ n ≤ length (now file) ⌝ }
 {
     let mut text = [0u8; 36880];
     let k = list(&file[..n], &mut text);
-    print(&text, k);
-}
-
-fn print(text: &[u8], k: usize)
-    requires { ⌜ k ≤ length (now text) ⌝ }
-{
     io::write_all(STDOUT_FILENO, &text[..k]);
 }
 

@@ -4,9 +4,10 @@ use mathlib.Core.Path.{_≡_}
 use mathlib.Core.List.{List}
 use native.Mathlib.Omega.{arith}
 use Rattle.game.specs.promise.Tables.{gameOf, Tables, vertices}
-use Rattle.game.specs.promise.Answer.{markOf}
+use Rattle.storage.specs.promise.Answer.{markOf}
 use Rattle.justification.specs.parts.Measure.{measure}
-use Rattle.reach.specs.parts.Work.{section}
+use Rattle.space.specs.parts.Work.{section}
+use Rattle.space.specs.parts.Desk.{Desk}
 use Rattle.pick.specs.declared.Picked.{Picked}
 use Rattle.pick.specs.declared.Picked.the-variants.{At, Nothing}
 use Rattle.pick.specs.parts.Order.{LeastOpen, AllSettled, NoneBelow, Pickable, Picks}
@@ -18,19 +19,19 @@ use Rattle.step.proofs.Moving.{moved-none, moved-more, moved-lines}
 use Rattle.orders.specs.declared.Ended.the-variants.{Done}
 use Rattle.orders.specs.parts.Ending.{Ran}
 
-module _ {tables : Tables} {heads nexts sources firsts lasts waiting levels winners moves work : List ℕ} (e : Engine tables heads nexts sources firsts lasts waiting levels winners moves work) where
-  pub pickable : Pickable (vertices tables) firsts waiting work
-  pickable = record { priorities = (tables .priorities); lasts = lasts; standing = e .standing }
+module _ {tables : Tables} {ins froms : List ℕ} {d : Desk} {winners moves work : List ℕ} (e : Engine tables ins froms d winners moves work) where
+  pub pickable : Pickable (vertices tables) d work
+  pickable = record { priorities = tables .priorities; standing = e .standing }
 
-  module _ {from : ℕ} {firsts′ waiting′ : List ℕ} {r : Picked} (b : NoneBelow (vertices tables) (tables .priorities) (section 0 (vertices tables) work) from) (p : Picks (vertices tables) from firsts waiting work firsts′ waiting′ r) where
+  module _ {from : ℕ} {d′ : Desk} {r : Picked} (b : NoneBelow (vertices tables) (tables .priorities) (section 0 (vertices tables) work) from) (p : Picks (vertices tables) from d work d′ r) where
     -- some settled vertices have left their lines
-    pub picked-moved : Moved tables heads nexts sources winners moves work firsts′ lasts waiting′ levels winners moves work
-    picked-moved = moved-lines e (standing-dropped (p .dropped) (e .standing)) (covered-dropped (p .dropped) (e .covered))
+    pub picked-moved : Moved tables ins froms winners moves work d′ winners moves work
+    picked-moved = moved-lines e (standing-dropped (p .dropped) (e .standing)) (covered-dropped (p .dropped) (e .covered)) (p .dropped .lines-only .levels)
 
     pub picked-least : {v : ℕ} → r ≡ At v → LeastOpen (vertices tables) (tables .priorities) (section 0 (vertices tables) work) v
     picked-least h = picked-at h p (e .standing) (e .covered) b
 
-    pub picked-steppable : {v : ℕ} → r ≡ At v → LeastSteppable v tables heads nexts sources firsts′ lasts waiting′ levels winners moves work
+    pub picked-steppable : {v : ℕ} → r ≡ At v → LeastSteppable v tables ins froms d′ winners moves work
     picked-steppable h = record { engine = picked-moved .engine; least = picked-least h }
 
     pub picked-all : r ≡ Nothing → AllSettled (vertices tables) (section 0 (vertices tables) work)
@@ -46,14 +47,14 @@ pub record Spending (budget left : ℕ) (tables : Tables) (winners₀ work₀ wi
   pub less : left < budget → Falls tables winners₀ work₀ winners work
 
 -- lowest first: the engine has moved, and nothing below the cursor is open
-pub record Lowering (low budget left : ℕ) (tables : Tables) (heads nexts sources winners₀ moves₀ work₀ firsts lasts waiting levels winners moves work : List ℕ) : Type 0 where
+pub record Lowering (low budget left : ℕ) (tables : Tables) (ins froms winners₀ moves₀ work₀ : List ℕ) (d : Desk) (winners moves work : List ℕ) : Type 0 where
   pub at-most : left ≤ budget
-  pub moved : Moved tables heads nexts sources winners₀ moves₀ work₀ firsts lasts waiting levels winners moves work
+  pub moved : Moved tables ins froms winners₀ moves₀ work₀ d winners moves work
   pub none-below : NoneBelow (vertices tables) (tables .priorities) (section 0 (vertices tables) work) low
   pub spending : Spending budget left tables winners₀ work₀ winners work
 
-module _ {tables : Tables} {heads nexts sources winners₀ moves₀ work₀ : List ℕ} where
-  pub lowering-none : {budget : ℕ} {firsts lasts waiting levels : List ℕ} → Engine tables heads nexts sources firsts lasts waiting levels winners₀ moves₀ work₀ → Lowering 0 budget budget tables heads nexts sources winners₀ moves₀ work₀ firsts lasts waiting levels winners₀ moves₀ work₀
+module _ {tables : Tables} {ins froms winners₀ moves₀ work₀ : List ℕ} where
+  pub lowering-none : {budget : ℕ} {d : Desk} → Engine tables ins froms d winners₀ moves₀ work₀ → Lowering 0 budget budget tables ins froms winners₀ moves₀ work₀ d winners₀ moves₀ work₀
   lowering-none e =
       record {
         at-most = omega arith;
@@ -63,14 +64,14 @@ module _ {tables : Tables} {heads nexts sources winners₀ moves₀ work₀ : Li
       }
 
   module _
-      {low budget left : ℕ} {firsts lasts waiting levels winners moves work : List ℕ}
-      (s : Lowering low budget left tables heads nexts sources winners₀ moves₀ work₀ firsts lasts waiting levels winners moves work)
+      {low budget left : ℕ} {d : Desk} {winners moves work : List ℕ}
+      (s : Lowering low budget left tables ins froms winners₀ moves₀ work₀ d winners moves work)
     where
       pub lowering-step :
-          {low′ left′ : ℕ} {firsts′ lasts′ waiting′ levels′ winners′ moves′ work′ : List ℕ} →
+          {low′ left′ : ℕ} {d′ : Desk} {winners′ moves′ work′ : List ℕ} →
           left′ < left →
-          LeastStepped tables heads nexts sources winners moves work firsts′ lasts′ waiting′ levels′ winners′ moves′ work′ low′ →
-          Lowering low′ budget left′ tables heads nexts sources winners₀ moves₀ work₀ firsts′ lasts′ waiting′ levels′ winners′ moves′ work′
+          LeastStepped tables ins froms winners moves work d′ winners′ moves′ work′ low′ →
+          Lowering low′ budget left′ tables ins froms winners₀ moves₀ work₀ d′ winners′ moves′ work′
       lowering-step l x =
           let less = x .falls .less in
           let before = s .spending .not-more in
@@ -82,7 +83,7 @@ module _ {tables : Tables} {heads nexts sources winners₀ moves₀ work₀ : Li
           }
 
       -- nothing is open
-      pub lowering-all : {firsts₁ waiting₁ : List ℕ} {r : Picked} → Picks (vertices tables) low firsts waiting work firsts₁ waiting₁ r → r ≡ Nothing → Ran tables heads nexts sources winners₀ moves₀ work₀ firsts₁ lasts waiting₁ levels winners moves work Done
+      pub lowering-all : {d₁ : Desk} {r : Picked} → Picks (vertices tables) low d work d₁ r → r ≡ Nothing → Ran tables ins froms winners₀ moves₀ work₀ d₁ winners moves work Done
       lowering-all p h =
           record {
             moved = moved-more (s .moved) (picked-moved (s .moved .engine) (s .none-below) p);

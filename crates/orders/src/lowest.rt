@@ -1,12 +1,14 @@
 // Lowest first: again and again an open vertex of least priority gets the line that the test gives. It is always eligible.
 use crate::Ended;
+use line::test;
 use pick::Picked;
 use pick::pick;
 use player::Player;
 use step::keep::keep;
-use step::test::test;
 use step::turn::turn;
+use storage::Winner;
 ghost use Rattle.game.specs.promise.Lent.{asked, lent};
+ghost use Rattle.space.specs.parts.Desk.{deskOf};
 ghost use Rattle.step.specs.parts.Stepping.{Engine};
 ghost use Rattle.orders.specs.parts.Ending.{Ran, Fell};
 
@@ -18,26 +20,22 @@ pub fn lowest(
     priorities: &[u8],
     starts: &[u16],
     targets: &[u16],
-    heads: &[u16],
-    nexts: &[u16],
-    sources: &[u16],
-    firsts: &mut [u16],
-    lasts: &mut [u16],
-    waiting: &mut [u16],
-    levels: &mut [u16],
-    winners: &mut [u8],
+    ins: &[u16],
+    froms: &[u16],
+    desk: &mut [u16],
+    winners: &mut [Winner],
     moves: &mut [u16],
     work: &mut [u16],
 ) -> Ended
-    requires { ⌜ Engine (asked owners priorities starts targets) (now heads) (now nexts) (now sources) (now firsts) (now lasts) (now waiting) (now levels) (now winners) (now moves) (now work) ⌝ }
-    ensures ran { λ r. ⌜ Ran (lent owners priorities starts targets) (now (heads .entry)) (now (nexts .entry)) (now (sources .entry)) (now (winners .entry)) (now (moves .entry)) (now (work .entry)) (now (firsts .exit)) (now (lasts .exit)) (now (waiting .exit)) (now (levels .exit)) (now (winners .exit)) (now (moves .exit)) (now (work .exit)) r ⌝ }
+    requires { ⌜ Engine (asked owners priorities starts targets) (now ins) (now froms) (deskOf (now desk)) (now winners) (now moves) (now work) ⌝ }
+    ensures ran { λ r. ⌜ Ran (lent owners priorities starts targets) (now (ins .entry)) (now (froms .entry)) (now (winners .entry)) (now (moves .entry)) (now (work .entry)) (deskOf (now (desk .exit))) (now (winners .exit)) (now (moves .exit)) (now (work .exit)) r ⌝ }
     ensures fell { λ r. ⌜ Fell budget (lent owners priorities starts targets) (now (winners .entry)) (now (work .entry)) (now (winners .exit)) (now (work .exit)) r ⌝ }
 {
     let n = owners.len();
     let mut low: usize = 0;
     let mut left = budget;
     while 0 < left {
-        let picked = pick(n, low, firsts, waiting, work);
+        let picked = pick(n, low, desk, work);
         let Picked::At(v) = picked else {
             return Ended::Done;
         };
@@ -45,7 +43,7 @@ pub fn lowest(
         let own = priorities[v];
         left -= 1;
         if line.winner == Player::of_priority(own).bit {
-            keep(v, line, levels, moves, work);
+            keep(v, line, desk, moves, work);
             low = own as usize;
         } else {
             low = turn(
@@ -54,14 +52,9 @@ pub fn lowest(
                 line,
                 own as usize,
                 priorities,
-                targets,
-                heads,
-                nexts,
-                sources,
-                firsts,
-                lasts,
-                waiting,
-                levels,
+                ins,
+                froms,
+                desk,
                 winners,
                 moves,
                 work,

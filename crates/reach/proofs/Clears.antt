@@ -1,4 +1,4 @@
--- The marks of the queue's vertices are taken back, place by place; at the end none is left.
+-- What the queue has reached is taken back, place by place; at the end nothing is left.
 use Prim.Native.Nat.{ℕ, _+_, _*_, _<_, _≤_}
 use mathlib.Core.Path.{_≡_, refl, sym, subst, ap, _∙_}
 use mathlib.Core.Logic.{_≢_}
@@ -7,14 +7,14 @@ use native.Mathlib.Omega.{arith}
 use native.Mathlib.Decide.{ℕ-discrete}
 use lib.ListN.{length, getD, set, length-set}
 use lib.Seq.{getD-set-same, getD-set-other}
-use Rattle.reach.specs.parts.Lists.{Filled}
+use Rattle.lists.specs.parts.Cells.{Filled}
 use Rattle.reach.specs.parts.Closure.{Queued}
-use Rattle.reach.specs.parts.Work.{section, Beside}
+use Rattle.space.specs.parts.Work.{section, Cell, CellSet, Beside}
 use Rattle.reach.specs.parts.Queue.{ClearableIn, ClearedIn}
-use Rattle.reach.proofs.Sections.{section-read, Stored, stored, beside-none, beside-more, beside-stored}
+use Rattle.space.proofs.Sections.{beside-none, beside-more, beside-stored}
 use Rattle.reach.proofs.Queues.{tail-bounded}
 
--- the marks that are left are in the queue from place i on
+-- the reached vertices that are left are in the queue from place i on
 pub record Clearing (n : ℕ) (queue : List ℕ) (tail : ℕ) (reached : List ℕ) (i : ℕ) : Type 0 where
   pub long : length reached ≡ n
   pub left : (v : ℕ) → v < n → getD reached v 0 ≢ 0 → (j : ℕ) × (i ≤ j) × (j < tail) × (getD queue j 0 ≡ v)
@@ -68,22 +68,26 @@ module _ {n : ℕ} {work₀ : List ℕ} {tail : ℕ} (p : ClearableIn n work₀ 
     long : length work ≡ 4 * n
     long = c .beside .long ∙ p .long
 
-    is : i < tail → getD work (2 * n + i) 0 ≡ getD (section 2 n work₀) i 0
-    is l = section-read n work long 2 i refl (omega (arith, tail-bounded (p .queued))) ∙ ap (λ (s : List ℕ). getD s i 0) (c .queue)
+    -- the queue's place, and the vertex that stands there
+    pub clearing-place : i < tail → Cell n i work
+    clearing-place l = record { small = p .small; long = long; within = omega (arith, tail-bounded (p .queued)) }
 
-    pub clearing-in-vertex : i < tail → getD work (2 * n + i) 0 < n
-    clearing-in-vertex l = subst (λ (v : ℕ). v < n) (sym (is l)) (p .queued .vertex i l)
+    is : {x : ℕ} → x ≡ getD (section 2 n work) i 0 → x ≡ getD (section 2 n work₀) i 0
+    is e = e ∙ ap (λ (s : List ℕ). getD s i 0) (c .queue)
 
-    pub clearing-in-more : i < tail → ClearingIn n work₀ tail (set work (n + getD work (2 * n + i) 0) 0) (i + 1)
-    clearing-in-more l =
+    pub clearing-cell : {x : ℕ} → i < tail → x ≡ getD (section 2 n work) i 0 → Cell n x work
+    clearing-cell l e = record { small = p .small; long = long; within = subst (λ (v : ℕ). v < n) (sym (is e)) (p .queued .vertex i l) }
+
+    pub clearing-in-more : {x : ℕ} {work′ : List ℕ} → i < tail → x ≡ getD (section 2 n work) i 0 → CellSet n 1 x 0 work work′ → ClearingIn n work₀ tail work′ (i + 1)
+    clearing-in-more {x} {work′} l e mark =
         record {
-          clearing = rw (mark .here) (clearing-more (c .clearing) (p .queued .vertex i l));
+          clearing = subst (λ (s : List ℕ). Clearing n (section 2 n work₀) tail s (i + 1)) (sym here) (clearing-more (c .clearing) (p .queued .vertex i l));
           queue = mark .other 2 (omega arith) (omega arith) ∙ c .queue;
           beside = beside-more (c .beside) (beside-stored (omega arith) (omega arith) mark);
         }
       where
-        mark : Stored n 1 (getD (section 2 n work₀) i 0) 0 work (set work (n + getD work (2 * n + i) 0) 0)
-        mark = stored 1 _ long (omega (arith, is l)) (omega arith) (p .queued .vertex i l)
+        here : section 1 n work′ ≡ set (section 1 n work) (getD (section 2 n work₀) i 0) 0
+        here = mark .here ∙ ap (λ (v : ℕ). set (section 1 n work) v 0) (is e)
 
     pub cleared : tail ≤ i → ClearedIn n work₀ work
     cleared l = record { filled = clearing-all (c .clearing) l; queue = c .queue; beside = c .beside }

@@ -1,12 +1,4 @@
-pub mod Stores
-pub mod Sections
-pub mod Count
 pub mod Queues
 pub mod Clears
-pub mod Links
-pub mod Owners
-pub mod Builds
-pub mod Chains
 pub mod Visits
 pub mod Closing
-pub mod Tables

@@ -1,19 +1,19 @@
--- The queue of marked vertices: a fresh one, and one more seed.
+-- The queue of reached vertices: a fresh one, and one more seed.
 use Prim.Native.Nat.{ℕ, _+_, _*_, _<_, _≤_}
-use mathlib.Core.Path.{_≡_, refl, sym, subst, ap, _∙_}
+use mathlib.Core.Path.{_≡_, refl, sym, subst, ap, ap₂, _∙_}
 use mathlib.Core.List.{List}
 use native.Mathlib.Omega.{arith}
 use native.Mathlib.Decide.{ℕ-discrete}
 use native.Mathlib.Nat.{not-suc-le-zero}
 use lib.ListN.{length, getD, set, length-set}
 use lib.Seq.{getD-set-same, getD-set-other}
-use Rattle.reach.specs.parts.Lists.{Filled}
+use Rattle.lists.specs.parts.Cells.{Filled}
 use Rattle.reach.specs.parts.Closure.{Queued}
-use Rattle.reach.specs.parts.Work.{section}
+use Rattle.space.specs.parts.Work.{section, Cell, CellSet}
 use Rattle.reach.specs.parts.Queue.{Seedable, Pushed, SeedableIn, PushedIn, ClearedIn}
-use Rattle.reach.proofs.Stores.{at-set}
-use Rattle.reach.proofs.Sections.{section-long, section-filled, Stored, stored, beside-more, beside-stored}
-use Rattle.reach.proofs.Count.{count-bounded, count-none, count-set, count-room}
+use Rattle.lists.proofs.Stores.{at-set}
+use Rattle.space.proofs.Sections.{section-long, section-filled, beside-more, beside-stored}
+use Rattle.lists.proofs.Count.{count-bounded, count-none, count-set, count-room}
 
 -- no marks, no queue
 pub fresh : (n : ℕ) (reached queue : List ℕ) → length reached ≡ n → length queue ≡ n → Filled reached 0 → Queued n reached queue 0
@@ -24,7 +24,7 @@ fresh n reached queue long room clean =
       flag = λ v l. let z = zero-at v l in omega arith;
       counted = sym (count-none n reached zero-at);
       vertex = λ i l. absurd (not-suc-le-zero l);
-      marked = λ i l. absurd (not-suc-le-zero l);
+      is-reached = λ i l. absurd (not-suc-le-zero l);
       place = λ v l one. let z = zero-at v l in absurd (omega arith);
     }
   where
@@ -52,7 +52,7 @@ pushed n v reached queue tail s =
             flag = λ u l. at-set (λ k x. x ≤ 1) reached v 1 in-reached (omega arith) u (λ ne. q .flag u l);
             counted = ap (λ (k : ℕ). k + 1) (q .counted) ∙ sym (count-set n reached v (s .vertex) in-reached (s .unreached));
             vertex = λ i l. at-set (λ k x. x < n) queue tail v in-queue (s .vertex) i (λ ne. q .vertex i (omega arith));
-            marked = λ i l. at-set (λ k x. getD (set reached v 1) x 0 ≡ 1) queue tail v in-queue here i (λ ne. kept _ (q .marked i (omega arith)));
+            is-reached = λ i l. at-set (λ k x. getD (set reached v 1) x 0 ≡ 1) queue tail v in-queue here i (λ ne. kept _ (q .is-reached i (omega arith)));
             place = λ u l m. place u l m (ℕ-discrete u v);
           };
       seeded = record { here = here; other = λ u ne. getD-set-other reached v u 1 0 ne };
@@ -100,27 +100,23 @@ filled-queued {n} {work} long clean = fresh-in n work long (section-filled n wor
 pub cleared-queued : {n : ℕ} {work work′ : List ℕ} → length work ≡ 4 * n → ClearedIn n work work′ → Queued n (section 1 n work′) (section 2 n work′) 0
 cleared-queued long c = fresh-in _ _ (c .beside .long ∙ long) (c .filled)
 
-pub pushed-in : {n v : ℕ} {work : List ℕ} {tail : ℕ} → SeedableIn n v work tail → PushedIn n v work tail (set (set work (n + v) 1) (2 * n + tail) v) (tail + 1)
-pushed-in {n} {v} {work} {tail} s =
+-- a seed is a place of the work space, and so is the queue's end
+pub seed-cell : {n v : ℕ} {work : List ℕ} {tail : ℕ} → SeedableIn n v work tail → Cell n v work
+seed-cell s = record { small = s .seedable .small; long = s .long; within = s .seedable .vertex }
+
+pub tail-cell : {n v : ℕ} {work middle : List ℕ} {tail : ℕ} → SeedableIn n v work tail → CellSet n 1 v 1 work middle → Cell n tail middle
+tail-cell s m = record { small = s .seedable .small; long = m .long ∙ s .long; within = room (s .seedable) }
+
+-- both are written
+pub pushed-in : {n v : ℕ} {work middle after : List ℕ} {tail x : ℕ} → SeedableIn n v work tail → CellSet n 1 v 1 work middle → x ≡ v → CellSet n 2 tail x middle after → PushedIn n v work tail after (tail + 1)
+pushed-in {n} {v} {work} {middle} {after} {tail} {x} s mark is place =
     record {
       pushed = rw (reached, places) (pushed n v _ _ tail (s .seedable));
       beside = beside-more (beside-stored (omega arith) (omega arith) mark) (beside-stored (omega arith) (omega arith) place);
     }
   where
-    middle : List ℕ
-    middle = set work (n + v) 1
-
-    after : List ℕ
-    after = set middle (2 * n + tail) v
-
-    mark : Stored n 1 v 1 work middle
-    mark = stored 1 v (s .long) (omega arith) (omega arith) (s .seedable .vertex)
-
-    place : Stored n 2 tail v middle after
-    place = stored 2 tail (mark .long ∙ s .long) refl (omega arith) (room (s .seedable))
-
     reached : section 1 n after ≡ set (section 1 n work) v 1
     reached = place .other 1 (omega arith) (omega arith) ∙ mark .here
 
     places : section 2 n after ≡ set (section 2 n work) tail v
-    places = place .here ∙ ap (λ (l : List ℕ). set l tail v) (mark .other 2 (omega arith) (omega arith))
+    places = place .here ∙ ap₂ (λ (l : List ℕ) (y : ℕ). set l tail y) (mark .other 2 (omega arith) (omega arith)) is

@@ -1,33 +1,26 @@
--- A visit to w walks the edges into it: what is reached and the queue grow by the starts of allowed steps, and none is passed over.
+-- A visit to w goes over its predecessors: what is reached and the queue grow by the starts of allowed steps, and none is passed over.
 use Prim.Native.Nat.{ℕ, _+_, _*_, _<_, _≤_}
-use mathlib.Core.Path.{_≡_, refl, sym, subst, ap, _∙_}
-use mathlib.Core.Logic.{_≢_, _⊎_, inl, inr}
+use mathlib.Core.Path.{_≡_, refl, sym, subst, _∙_}
+use mathlib.Core.Logic.{_⊎_, inl, inr}
 use mathlib.Core.List.{List}
 use native.Mathlib.Omega.{arith}
 use native.Mathlib.Decide.{ℕ-discrete}
 use lib.ListN.{length, getD}
-use Rattle.reach.specs.parts.Lists.{nil, Preds}
-use Rattle.reach.specs.parts.Closure.{Allowed}
-use Rattle.reach.specs.parts.Work.{section, Beside}
-use Rattle.reach.specs.parts.Queue.{Seedable, Pushed, Visitable, Grown, Visited, SeedableIn, PushedIn, VisitableIn, VisitedIn}
-use Rattle.reach.proofs.Sections.{section-read, beside-none, beside-more}
+use Rattle.space.specs.parts.Work.{section, Beside}
+use Rattle.space.proofs.Sections.{beside-none, beside-more}
+use Rattle.preds.specs.parts.Preds.{Into}
+use Rattle.reach.specs.parts.Closure.{ToChoice, Allowed}
+use Rattle.reach.specs.parts.Queue.{Pushed, Visitable, Grown, Visited, Triable, Tried, passed, taken, VisitableIn, VisitedIn}
 use Rattle.reach.proofs.Queues.{pushed-queued}
-use Rattle.reach.proofs.Chains.{Passed, passed-none, cursor-edge, passed-more, passed-all}
 
--- a step along edge j to w is not allowed, or starts at a marked vertex
-pub record Done (sources level choice : List ℕ) (bound w : ℕ) (reached : List ℕ) (j : ℕ) : Type 0 where
-  pub marked : getD level (getD sources j 0) 0 ≤ bound → (getD choice (getD sources j 0) 0 ≢ nil → w ≡ getD choice (getD sources j 0) 0) → getD reached (getD sources j 0) 0 ≡ 1
+-- the predecessors of w at the places below i are passed: whoever has an allowed step is reached
+pub record Visiting (n w : ℕ) (ins froms level choice : List ℕ) (bound : ℕ) (reached₀ queue₀ : List ℕ) (tail : ℕ) (reached queue : List ℕ) (i end : ℕ) : Type 0 where
+  pub grown : Grown n w ins froms level choice bound reached₀ queue₀ tail reached queue end
+  pub begun : getD ins w 0 ≤ i
+  pub passed : (j : ℕ) → getD ins w 0 ≤ j → j < i → getD level (getD froms j 0) 0 ≤ bound → ToChoice choice (getD froms j 0) w → getD reached (getD froms j 0) 0 ≡ 1
 
--- the edges into w behind the cursor e are done
-pub record Visiting (n w : ℕ) (keys sources level choice : List ℕ) (bound : ℕ) (reached₀ queue₀ : List ℕ) (tail : ℕ) (reached queue : List ℕ) (e end : ℕ) : Type 0 where
-  pub grown : Grown n w keys sources level choice bound reached₀ queue₀ tail reached queue end
-  pub passed : Passed keys w (Done sources level choice bound w reached) e
-
-module _ {n w : ℕ} {keys heads nexts sources level choice reached₀ queue₀ : List ℕ} {tail : ℕ} (p : Visitable n w keys heads nexts sources level choice reached₀ queue₀ tail) where
-  preds : Preds n keys heads nexts sources
-  preds = p .closable .preds
-
-  pub visiting-none : {bound : ℕ} → Visiting n w keys sources level choice bound reached₀ queue₀ tail reached₀ queue₀ (getD heads w 0) tail
+module _ {n w : ℕ} {ins froms level choice reached₀ queue₀ : List ℕ} {tail : ℕ} (p : Visitable n w ins froms level choice reached₀ queue₀ tail) where
+  pub visiting-none : {bound : ℕ} → Visiting n w ins froms level choice bound reached₀ queue₀ tail reached₀ queue₀ (getD ins w 0) tail
   visiting-none =
       record {
         grown =
@@ -38,121 +31,113 @@ module _ {n w : ℕ} {keys heads nexts sources level choice reached₀ queue₀ 
               kept = λ v m. m;
               reason = λ v m. inl m;
             };
-        passed = passed-none preds (p .vertex);
+        begun = omega arith;
+        passed = λ j a b. absurd (omega arith);
       }
 
-  module _ {bound : ℕ} {reached queue : List ℕ} {e end : ℕ} (l : e < nil) (h : Visiting n w keys sources level choice bound reached₀ queue₀ tail reached queue e end) where
-    -- the cursor's edge, and where it starts
-    pub visiting-edge : e < length keys
-    visiting-edge = cursor-edge preds l (h .passed) .0
+  module _ {bound : ℕ} {reached queue : List ℕ} {i end : ℕ} (l : i < getD ins (w + 1) 0) (h : Visiting n w ins froms level choice bound reached₀ queue₀ tail reached queue i end) where
+    -- the place is one of the list's, and who stands there leads into w
+    pub visiting-within : i < length froms
+    visiting-within = omega (arith, l, p .closable .back .within w (p .vertex))
 
-    pub visiting-source : getD sources e 0 < n
-    visiting-source = preds .source e visiting-edge
+    into : Into n ins froms (getD froms i 0) w
+    into = record { vertex = p .vertex; at = i; begins = h .begun; ends = l; is = refl }
 
-    -- nothing to do at the cursor
-    skip : Done sources level choice bound w reached e → Visiting n w keys sources level choice bound reached₀ queue₀ tail reached queue (getD nexts e 0) end
-    skip here = record { grown = h .grown; passed = passed-more preds l (h .passed) (λ j d. d) here }
+    pub visiting-source : getD froms i 0 < n
+    visiting-source = p .closable .back .source _ w into
 
-    pub skip-marked : getD reached (getD sources e 0) 0 ≢ 0 → Visiting n w keys sources level choice bound reached₀ queue₀ tail reached queue (getD nexts e 0) end
-    skip-marked ne =
-        let f = h .grown .queued .flag (getD sources e 0) visiting-source in
-        skip (record { marked = λ low fixed. omega arith })
-
-    pub skip-high : bound < getD level (getD sources e 0) 0 → Visiting n w keys sources level choice bound reached₀ queue₀ tail reached queue (getD nexts e 0) end
-    skip-high high = skip (record { marked = λ low fixed. absurd (omega arith) })
-
-    pub skip-fixed : getD choice (getD sources e 0) 0 ≢ nil → getD choice (getD sources e 0) 0 ≢ w → Visiting n w keys sources level choice bound reached₀ queue₀ tail reached queue (getD nexts e 0) end
-    skip-fixed ne other = skip (record { marked = λ low fixed. absurd (other (sym (fixed ne))) })
-
-    -- the edge's start can be pushed
-    pub seedable : getD reached (getD sources e 0) 0 ≡ 0 → Seedable n (getD sources e 0) reached queue end
-    seedable z =
-        record { queued = h .grown .queued; vertex = visiting-source; unreached = z; small = p .closable .small }
-
-    pub push : {reached′ queue′ : List ℕ} {r : ℕ} → getD level (getD sources e 0) 0 ≤ bound → (getD choice (getD sources e 0) 0 ≢ nil → w ≡ getD choice (getD sources e 0) 0) → Pushed n (getD sources e 0) reached queue end reached′ queue′ r → Visiting n w keys sources level choice bound reached₀ queue₀ tail reached′ queue′ (getD nexts e 0) r
-    push {reached′} {queue′} {r} low fixed q =
-        record {
-          grown =
-              record {
-                queued = pushed-queued q;
-                longer = omega (arith, g .longer, q .one-more);
-                front = record { same = λ i m. q .front .same i (omega (arith, g .longer)) ∙ g .front .same i m };
-                kept = λ v m. kept v (g .kept v m);
-                reason = λ v m. reason v m (ℕ-discrete v (getD sources e 0));
-              };
-          passed = passed-more preds l (h .passed) (λ j d. record { marked = λ a b. kept _ (d .marked a b) }) (record { marked = λ a b. q .seeded .here });
-        }
+    -- one place more is passed, if whoever has an allowed step there is reached
+    more :
+        {reached′ queue′ : List ℕ} {end′ : ℕ} → Grown n w ins froms level choice bound reached₀ queue₀ tail reached′ queue′ end′ →
+        ((v : ℕ) → getD reached v 0 ≡ 1 → getD reached′ v 0 ≡ 1) →
+        (getD level (getD froms i 0) 0 ≤ bound → ToChoice choice (getD froms i 0) w → getD reached′ (getD froms i 0) 0 ≡ 1) →
+        Visiting n w ins froms level choice bound reached₀ queue₀ tail reached′ queue′ (i + 1) end′
+    more {reached′} g kept here =
+        record { grown = g; begun = omega (arith, h .begun); passed = λ j a b. at j a b (ℕ-discrete j i) }
       where
-        g : Grown n w keys sources level choice bound reached₀ queue₀ tail reached queue end
+        at : (j : ℕ) → getD ins w 0 ≤ j → j < i + 1 → Dec (j ≡ i) → getD level (getD froms j 0) 0 ≤ bound → ToChoice choice (getD froms j 0) w → getD reached′ (getD froms j 0) 0 ≡ 1
+        at j a b (yes e) = subst (λ (k : ℕ). getD level (getD froms k 0) 0 ≤ bound → ToChoice choice (getD froms k 0) w → getD reached′ (getD froms k 0) 0 ≡ 1) (sym e) here
+        at j a b (no ne) = λ low fixed. kept _ (h .passed j a (omega arith) low fixed)
+
+    pub skip : (getD level (getD froms i 0) 0 ≤ bound → ToChoice choice (getD froms i 0) w → getD reached (getD froms i 0) 0 ≡ 1) → Visiting n w ins froms level choice bound reached₀ queue₀ tail reached queue (i + 1) end
+    skip here = more (h .grown) (λ v m. m) here
+
+    pub push : {reached′ queue′ : List ℕ} {r : ℕ} → getD level (getD froms i 0) 0 ≤ bound → ToChoice choice (getD froms i 0) w → Pushed n (getD froms i 0) reached queue end reached′ queue′ r → Visiting n w ins froms level choice bound reached₀ queue₀ tail reached′ queue′ (i + 1) r
+    push {reached′} {queue′} {r} low fixed q = more grown kept (λ a b. q .seeded .here)
+      where
+        g : Grown n w ins froms level choice bound reached₀ queue₀ tail reached queue end
         g = h .grown
 
         kept : (v : ℕ) → getD reached v 0 ≡ 1 → getD reached′ v 0 ≡ 1
-        kept v m = elim (ℕ-discrete v (getD sources e 0)) [ yes d ↦ subst (λ (k : ℕ). getD reached′ k 0 ≡ 1) (sym d) (q .seeded .here) | no ne ↦ q .seeded .other v ne ∙ m ]
+        kept v m = elim (ℕ-discrete v (getD froms i 0)) [ yes d ↦ subst (λ (k : ℕ). getD reached′ k 0 ≡ 1) (sym d) (q .seeded .here) | no ne ↦ q .seeded .other v ne ∙ m ]
 
-        reason : (v : ℕ) → getD reached′ v 0 ≡ 1 → Dec (v ≡ getD sources e 0) → (getD reached₀ v 0 ≡ 1) ⊎ Allowed keys sources level choice bound v w
-        reason v m (yes d) =
-            inr (subst (λ (k : ℕ). Allowed keys sources level choice bound k w) (sym d) (record { edge = record { number = e; is = record { within = visiting-edge; into = cursor-edge preds l (h .passed) .1; from = refl } }; low = low; fixed = fixed }))
+        reason : (v : ℕ) → getD reached′ v 0 ≡ 1 → Dec (v ≡ getD froms i 0) → (getD reached₀ v 0 ≡ 1) ⊎ Allowed n ins froms level choice bound v w
+        reason v m (yes d) = inr (subst (λ (k : ℕ). Allowed n ins froms level choice bound k w) (sym d) (record { edge = into; low = low; fixed = fixed }))
         reason v m (no ne) = g .reason v (sym (q .seeded .other v ne) ∙ m)
 
-pub visited : {n w : ℕ} {keys sources level choice : List ℕ} {bound : ℕ} {reached₀ queue₀ : List ℕ} {tail : ℕ} {reached queue : List ℕ} {e end : ℕ} → nil ≤ e → Visiting n w keys sources level choice bound reached₀ queue₀ tail reached queue e end → Visited n w keys sources level choice bound reached₀ queue₀ tail reached queue end
-visited {n} {w} {keys} {sources} {level} {choice} {bound} {reached₀} {queue₀} {tail} {reached} {queue} {e} {end} l h =
-    record { grown = h .grown; all = all }
+        grown : Grown n w ins froms level choice bound reached₀ queue₀ tail reached′ queue′ r
+        grown =
+            record {
+              queued = pushed-queued q;
+              longer = omega (arith, g .longer, q .one-more);
+              front = record { same = λ j m. q .front .same j (omega (arith, g .longer)) ∙ g .front .same j m };
+              kept = λ v m. kept v (g .kept v m);
+              reason = λ v m. reason v m (ℕ-discrete v (getD froms i 0));
+            }
+
+pub visited : {n w : ℕ} {ins froms level choice : List ℕ} {bound : ℕ} {reached₀ queue₀ : List ℕ} {tail : ℕ} {reached queue : List ℕ} {i end : ℕ} → getD ins (w + 1) 0 ≤ i → Visiting n w ins froms level choice bound reached₀ queue₀ tail reached queue i end → Visited n w ins froms level choice bound reached₀ queue₀ tail reached queue end
+visited {n} {w} {ins} {froms} {level} {choice} {bound} {reached = reached} l h = record { grown = h .grown; all = all }
   where
-    all : (v : ℕ) → Allowed keys sources level choice bound v w → getD reached v 0 ≡ 1
+    all : (v : ℕ) → Allowed n ins froms level choice bound v w → getD reached v 0 ≡ 1
     all v a =
-        let i = a .edge .is in
-        let d : Done sources level choice bound w reached (a .edge .number) = passed-all l (h .passed) (a .edge .number) (i .within) (i .into) in
-        subst (λ (x : ℕ). getD level x 0 ≤ bound → (getD choice x 0 ≢ nil → w ≡ getD choice x 0) → getD reached x 0 ≡ 1) (i .from) (d .marked) (a .low) (a .fixed)
+        let e = a .edge in
+        subst (λ (x : ℕ). getD level x 0 ≤ bound → ToChoice choice x w → getD reached x 0 ≡ 1) (e .is) (h .passed (e .at) (e .begins) (omega (arith, e .ends, l))) (a .low) (a .fixed)
 
 -- The same in the work space.
 
-pub record VisitingIn (n w : ℕ) (keys sources choice : List ℕ) (bound : ℕ) (work₀ : List ℕ) (tail : ℕ) (work : List ℕ) (e end : ℕ) : Type 0 where
-  pub visiting : Visiting n w keys sources (section 0 n work₀) choice bound (section 1 n work₀) (section 2 n work₀) tail (section 1 n work) (section 2 n work) e end
+pub record VisitingIn (n w : ℕ) (ins froms choice : List ℕ) (bound : ℕ) (work₀ : List ℕ) (tail : ℕ) (work : List ℕ) (i end : ℕ) : Type 0 where
+  pub visiting : Visiting n w ins froms (section 0 n work₀) choice bound (section 1 n work₀) (section 2 n work₀) tail (section 1 n work) (section 2 n work) i end
   pub beside : Beside n work₀ work
 
-module _ {n w : ℕ} {keys heads nexts sources choice work₀ : List ℕ} {tail : ℕ} (p : VisitableIn n w keys heads nexts sources choice work₀ tail) where
-  pub visiting-in-none : {bound : ℕ} → VisitingIn n w keys sources choice bound work₀ tail work₀ (getD heads w 0) tail
+module _ {n w : ℕ} {ins froms choice work₀ : List ℕ} {tail : ℕ} (p : VisitableIn n w ins froms choice work₀ tail) where
+  pub visiting-in-none : {bound : ℕ} → VisitingIn n w ins froms choice bound work₀ tail work₀ (getD ins w 0) tail
   visiting-in-none = record { visiting = visiting-none (p .visitable); beside = beside-none }
 
-  module _ {bound : ℕ} {work : List ℕ} {e end : ℕ} (l : e < nil) (h : VisitingIn n w keys sources choice bound work₀ tail work e end) where
-    visiting-in-long : length work ≡ 4 * n
-    visiting-in-long = h .beside .long ∙ p .long
+  module _ {bound : ℕ} {work : List ℕ} {i end : ℕ} (l : i < getD ins (w + 1) 0) (h : VisitingIn n w ins froms choice bound work₀ tail work i end) where
+    long : length work ≡ 4 * n
+    long = h .beside .long ∙ p .long
 
-    pub visiting-in-edge : e < length keys
-    visiting-in-edge = visiting-edge (p .visitable) l (h .visiting)
+    pub visiting-place : i < length froms
+    visiting-place = visiting-within (p .visitable) l (h .visiting)
 
-    pub visiting-in-source : getD sources e 0 < n
-    visiting-in-source = visiting-source (p .visitable) l (h .visiting)
+    module _ {u : ℕ} (is : u ≡ getD froms i 0) where
+      -- who stands there is tried
+      pub visiting-triable : Triable n u work end
+      visiting-triable =
+          record {
+            long = long;
+            small = p .visitable .closable .small;
+            vertex = subst (λ (x : ℕ). x < n) (sym is) (visiting-source (p .visitable) l (h .visiting));
+            queued = h .visiting .grown .queued;
+          }
 
-    -- the mark and the level of the edge's start
-    mark : getD work (n + getD sources e 0) 0 ≡ getD (section 1 n work) (getD sources e 0) 0
-    mark = section-read n work visiting-in-long 1 _ (omega arith) visiting-in-source
+      pub visiting-more : {work′ : List ℕ} {r : ℕ} → Tried n u w choice bound work end work′ r → VisitingIn n w ins froms choice bound work₀ tail work′ (i + 1) r
+      visiting-more {work′} {r} (passed e same here) =
+          subst (λ (s : List ℕ). VisitingIn n w ins froms choice bound work₀ tail s (i + 1) r) (sym e)
+          (subst (λ (k : ℕ). VisitingIn n w ins froms choice bound work₀ tail work (i + 1) k) (sym same)
+          (record {
+            visiting = skip (p .visitable) l (h .visiting) (subst (λ (y : ℕ). getD (section 0 n work₀) y 0 ≤ bound → ToChoice choice y w → getD (section 1 n work) y 0 ≡ 1) is (subst (λ (s : List ℕ). getD s u 0 ≤ bound → ToChoice choice u w → getD (section 1 n work) u 0 ≡ 1) (h .beside .levels) here));
+            beside = h .beside;
+          }))
+      visiting-more {work′} {r} (taken low fixed q) =
+          record {
+            visiting =
+                push (p .visitable) l (h .visiting)
+                (subst (λ (y : ℕ). getD (section 0 n work₀) y 0 ≤ bound) is (subst (λ (s : List ℕ). getD s u 0 ≤ bound) (h .beside .levels) low))
+                (subst (λ (y : ℕ). ToChoice choice y w) is fixed)
+                (subst (λ (y : ℕ). Pushed n y (section 1 n work) (section 2 n work) end (section 1 n work′) (section 2 n work′) r) is (q .pushed));
+            beside = beside-more (h .beside) (q .beside);
+          }
 
-    low : getD work (getD sources e 0) 0 ≡ getD (section 0 n work₀) (getD sources e 0) 0
-    low = section-read n work visiting-in-long 0 _ (omega arith) visiting-in-source ∙ ap (λ (s : List ℕ). getD s (getD sources e 0) 0) (h .beside .levels)
-
-    pub skip-marked-in : getD work (n + getD sources e 0) 0 ≢ 0 → VisitingIn n w keys sources choice bound work₀ tail work (getD nexts e 0) end
-    skip-marked-in ne =
-        record { visiting = skip-marked (p .visitable) l (h .visiting) (λ z. ne (mark ∙ z)); beside = h .beside }
-
-    pub skip-high-in : bound < getD work (getD sources e 0) 0 → VisitingIn n w keys sources choice bound work₀ tail work (getD nexts e 0) end
-    skip-high-in high =
-        record { visiting = skip-high (p .visitable) l (h .visiting) (subst (λ (x : ℕ). bound < x) low high); beside = h .beside }
-
-    pub skip-fixed-in : getD choice (getD sources e 0) 0 ≢ nil → getD choice (getD sources e 0) 0 ≢ w → VisitingIn n w keys sources choice bound work₀ tail work (getD nexts e 0) end
-    skip-fixed-in ne other =
-        record { visiting = skip-fixed (p .visitable) l (h .visiting) ne other; beside = h .beside }
-
-    pub seedable-in : getD work (n + getD sources e 0) 0 ≡ 0 → SeedableIn n (getD sources e 0) work end
-    seedable-in z =
-        record { long = visiting-in-long; seedable = seedable (p .visitable) l (h .visiting) (sym mark ∙ z) }
-
-    pub push-in : {work′ : List ℕ} {r : ℕ} → getD work (getD sources e 0) 0 ≤ bound → (getD choice (getD sources e 0) 0 ≢ nil → w ≡ getD choice (getD sources e 0) 0) → PushedIn n (getD sources e 0) work end work′ r → VisitingIn n w keys sources choice bound work₀ tail work′ (getD nexts e 0) r
-    push-in within fixed q =
-        record {
-          visiting = push (p .visitable) l (h .visiting) (subst (λ (x : ℕ). x ≤ bound) low within) fixed (q .pushed);
-          beside = beside-more (h .beside) (q .beside);
-        }
-
-pub visited-in : {n w : ℕ} {keys sources choice : List ℕ} {bound : ℕ} {work₀ : List ℕ} {tail : ℕ} {work : List ℕ} {e end : ℕ} → nil ≤ e → VisitingIn n w keys sources choice bound work₀ tail work e end → VisitedIn n w keys sources choice bound work₀ tail work end
+pub visited-in : {n w : ℕ} {ins froms choice : List ℕ} {bound : ℕ} {work₀ : List ℕ} {tail : ℕ} {work : List ℕ} {i end : ℕ} → getD ins (w + 1) 0 ≤ i → VisitingIn n w ins froms choice bound work₀ tail work i end → VisitedIn n w ins froms choice bound work₀ tail work end
 visited-in l h = record { visited = visited l (h .visiting); beside = h .beside }

@@ -1,5 +1,2 @@
-pub mod Lists
 pub mod Closure
-pub mod Build
-pub mod Work
 pub mod Queue

@@ -1,4 +1,2 @@
-// Predecessor lists of a game's edges, and the closure backwards over them.
-pub mod cells;
+// The closure backwards over a game's edges.
 pub mod closure;
-pub mod lists;

@@ -6,14 +6,15 @@ use native.Mathlib.Decide.{ℕ-discrete}
 use lib.ListN.{getD}
 use Rattle.game.specs.promise.Game.{Game, Edge}
 use Rattle.game.specs.promise.Tables.{gameOf, Tables, vertices}
-use Rattle.game.specs.promise.Answer.{markOf, moveOf}
+use Rattle.storage.specs.promise.Answer.{markOf, moveOf}
 use Rattle.winning.proofs.Walks.{follow, follow-back}
 use Rattle.justification.specs.parts.Safe.{Support, Safe, Above, Levelled}
 use Rattle.justification.specs.parts.Step.{Same, Reset, Downward}
 use Rattle.justification.proofs.Lines.{within}
 use Rattle.justification.proofs.ResetStep.{resets, reset-above}
 use Rattle.reach.specs.parts.Closure.{Allowed}
-use Rattle.reach.specs.parts.Work.{section}
+use Rattle.space.specs.parts.Work.{section}
+use Rattle.space.specs.parts.Desk.{Desk}
 use Rattle.levels.specs.parts.Levels.{settledOf, levelOf}
 use Rattle.levels.proofs.Flags.{flag-settled, settled-flag, same-settled}
 use Rattle.step.specs.parts.State.{KeptSet, Carried}
@@ -23,9 +24,9 @@ use Rattle.step.proofs.Carry.{carried-same}
 use Rattle.restart.specs.parts.Restarting.{RestartedIn}
 
 module _
-    {tables : Tables} {heads nexts sources firsts lasts waiting levels winners moves work firsts′ lasts′ waiting′ levels′ winners′ work′ : List ℕ}
-    (s : Engine tables heads nexts sources firsts lasts waiting levels winners moves work)
-    (t : RestartedIn (vertices tables) (tables .priorities) (tables .targets) sources moves levels winners work firsts′ lasts′ waiting′ levels′ winners′ work′)
+    {tables : Tables} {ins froms : List ℕ} {d : Desk} {winners moves work : List ℕ} {d′ : Desk} {winners′ work′ : List ℕ}
+    (s : Engine tables ins froms d winners moves work)
+    (t : RestartedIn (vertices tables) (tables .priorities) ins froms moves winners work d′ winners′ work′)
   where
     abbrev g : Game
     g = gameOf tables
@@ -44,7 +45,7 @@ module _
     back : (u w : ℕ) → Old u w → R w → R u
     back u w e one =
         t .open-reached .closed u w
-        (allowed tables winners moves work sources (s .state .well-formed .sound) (s .edges) (s .state .safe) u w e) one
+        (allowed tables winners moves work ins froms (s .state .well-formed .sound) (s .state .moves-long) (s .preds) (s .state .safe) u w e) one
 
     -- the rest is as before
     same : (u : ℕ) → u < n → ¬ R u → Same (markOf winners) (moveOf moves) (settledOf n work) (markOf winners′) (moveOf moves) (settledOf n work′) u
@@ -77,13 +78,13 @@ module _
         }
 
     -- what is settled is outside
-    pub levelled : Levelled g (markOf winners′) (moveOf moves) (settledOf n work′) (levelOf levels′)
+    pub levelled : Levelled g (markOf winners′) (moveOf moves) (settledOf n work′) (levelOf (d′ .levels))
     levelled =
         record {
           above =
               λ v l f.
               let out : ¬ R v = λ one. reset .reopened v l one .0 f in
-              reset-above g _ _ _ _ _ _ R downward reset l out (firm (levelOf levels′ v) l out);
+              reset-above g _ _ _ _ _ _ R downward reset l out (firm (levelOf (d′ .levels) v) l out);
         }
 
     -- edges lead from a kept vertex to kept ones alone, so to no open one
@@ -93,9 +94,9 @@ module _
         let k : (leads .0 < n) × (getD kept (leads .0) 0 ≡ 1) = follow (λ y. (y < n) × (getD kept y 0 ≡ 1)) stays (l, one) (leads .2) in
         leads .1 (settled-flag n work (leads .0) (h .settled (leads .0) (k .0) (k .1)))
       where
-        stays : (x y : ℕ) → Allowed (tables .targets) sources (section 0 n work) moves 0 x y → (x < n) × (getD kept x 0 ≡ 1) → (y < n) × (getD kept y 0 ≡ 1)
+        stays : (x y : ℕ) → Allowed n ins froms (section 0 n work) moves 0 x y → (x < n) × (getD kept x 0 ≡ 1) → (y < n) × (getD kept y 0 ≡ 1)
         stays x y i k =
-            let e : Edge g x y = s .edges .edge (tables .owners) (tables .priorities) refl x y (i .edge) in
+            let e : Edge g x y = s .preds .edge x y (i .edge) in
             (e .to, h .closed x y (k .1) e)
 
     pub carried : Carried tables winners moves work winners′ moves work′

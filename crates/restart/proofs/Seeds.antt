@@ -8,16 +8,16 @@ use native.Mathlib.Decide.{ℕ-discrete}
 use native.Mathlib.Nat.{not-suc-le-zero}
 use lib.ListN.{length, getD}
 use Rattle.reach.specs.parts.Closure.{Queued}
-use Rattle.reach.specs.parts.Work.{section, Beside}
+use Rattle.space.specs.parts.Work.{section, Beside, Cell}
 use Rattle.reach.specs.parts.Queue.{SeedableIn, PushedIn}
-use Rattle.reach.proofs.Sections.{section-long, section-read, beside-none, beside-more}
+use Rattle.space.proofs.Sections.{section-long, beside-none, beside-more}
 use Rattle.reach.proofs.Queues.{fresh-in, pushed-queued}
 use Rattle.restart.specs.parts.Restarting.{OpenSeedable, SeededAll}
 
--- the open vertices below v are marked, and no others
+-- the open vertices below v are reached, and no others
 pub record Seeding (n : ℕ) (work₀ work : List ℕ) (tail v : ℕ) : Type 0 where
   pub queued : Queued n (section 1 n work) (section 2 n work) tail
-  pub marked : (u : ℕ) → u < n → u < v → getD (section 0 n work₀) u 0 ≢ 0 → getD (section 1 n work) u 0 ≡ 1
+  pub is-reached : (u : ℕ) → u < n → u < v → getD (section 0 n work₀) u 0 ≢ 0 → getD (section 1 n work) u 0 ≡ 1
   pub only : (u : ℕ) → u < n → getD (section 1 n work) u 0 ≡ 1 → (u < v) × (getD (section 0 n work₀) u 0 ≢ 0)
   pub beside : Beside n work₀ work
 
@@ -26,7 +26,7 @@ module _ {n : ℕ} {work₀ : List ℕ} (p : OpenSeedable n work₀) where
   seeding-none =
       record {
         queued = fresh-in n work₀ (p .long) (p .unreached);
-        marked = λ u l h. absurd (not-suc-le-zero h);
+        is-reached = λ u l h. absurd (not-suc-le-zero h);
         only = λ u l one. absurd (omega (arith, clean u l));
         beside = beside-none;
       }
@@ -38,11 +38,11 @@ module _ {n : ℕ} {work₀ : List ℕ} (p : OpenSeedable n work₀) where
     long : length work ≡ 4 * n
     long = s .beside .long ∙ p .long
 
-    -- the cell that is read is the flag of v
-    flag : v < n → getD work v 0 ≡ getD (section 0 n work₀) v 0
-    flag l = section-read n work long 0 v (omega arith) l ∙ ap (λ (k : List ℕ). getD k v 0) (s .beside .levels)
+    -- v has its cells
+    pub seeding-cell : v < n → Cell n v work
+    seeding-cell l = record { small = p .small; long = long; within = l }
 
-    -- v is not marked yet
+    -- v is not reached yet
     pub seeding-seedable : v < n → SeedableIn n v work tail
     seeding-seedable l =
         record { long = long; seedable = record { queued = s .queued; vertex = l; unreached = unreached; small = p .small } }
@@ -52,42 +52,47 @@ module _ {n : ℕ} {work₀ : List ℕ} (p : OpenSeedable n work₀) where
             let out : getD (section 1 n work) v 0 ≢ 1 = λ one. omega (arith, s .only v l one .0) in
             omega (arith, s .queued .flag v l)
 
-    -- v is settled
-    pub seeding-skip : v < n → getD work v 0 ≡ 0 → Seeding n work₀ work tail (v + 1)
-    seeding-skip l z =
-        record {
-          queued = s .queued;
-          marked = λ u h less o. elim (ℕ-discrete u v) [ yes e ↦ absurd (o (ap (λ (k : ℕ). getD (section 0 n work₀) k 0) e ∙ sym (flag l) ∙ z)) | no ne ↦ s .marked u h (omega arith) o ];
-          only = λ u h one. let i = s .only u h one in (omega (arith, i .0), i .1);
-          beside = s .beside;
-        }
+module _ {n : ℕ} {work₀ work : List ℕ} {tail v : ℕ} (s : Seeding n work₀ work tail v) where
+  -- the flag of v is what it was at the start
+  flag : getD (section 0 n work) v 0 ≡ getD (section 0 n work₀) v 0
+  flag = ap (λ (k : List ℕ). getD k v 0) (s .beside .levels)
 
-    -- v is open, and one more seed
-    pub seeding-push : {work′ : List ℕ} {r : ℕ} → v < n → getD work v 0 ≢ 0 → PushedIn n v work tail work′ r → Seeding n work₀ work′ r (v + 1)
-    seeding-push {work′} {r} l o q =
-        record {
-          queued = pushed-queued (q .pushed);
-          marked = λ u h less f. marked u h less f (ℕ-discrete u v);
-          only = λ u h one. only u h one (ℕ-discrete u v);
-          beside = beside-more (s .beside) (q .beside);
-        }
-      where
-        marked : (u : ℕ) → u < n → u < v + 1 → getD (section 0 n work₀) u 0 ≢ 0 → Dec (u ≡ v) → getD (section 1 n work′) u 0 ≡ 1
-        marked u h less f (yes e) = ap (λ (k : ℕ). getD (section 1 n work′) k 0) e ∙ q .pushed .seeded .here
-        marked u h less f (no ne) = q .pushed .seeded .other u ne ∙ s .marked u h (omega arith) f
+  -- v is settled
+  pub seeding-skip : {x : ℕ} → x ≡ getD (section 0 n work) v 0 → x ≡ 0 → Seeding n work₀ work tail (v + 1)
+  seeding-skip is z =
+      record {
+        queued = s .queued;
+        is-reached = λ u h less o. elim (ℕ-discrete u v) [ yes e ↦ absurd (o (ap (λ (k : ℕ). getD (section 0 n work₀) k 0) e ∙ sym (is ∙ flag) ∙ z)) | no ne ↦ s .is-reached u h (omega arith) o ];
+        only = λ u h one. let i = s .only u h one in (omega (arith, i .0), i .1);
+        beside = s .beside;
+      }
 
-        only : (u : ℕ) → u < n → getD (section 1 n work′) u 0 ≡ 1 → Dec (u ≡ v) → (u < v + 1) × (getD (section 0 n work₀) u 0 ≢ 0)
-        only u h one (yes e) =
-            (omega arith, λ z. o (flag l ∙ subst (λ (k : ℕ). getD (section 0 n work₀) k 0 ≡ 0) e z))
-        only u h one (no ne) =
-            let i = s .only u h (sym (q .pushed .seeded .other u ne) ∙ one) in
-            (omega (arith, i .0), i .1)
+  -- v is open, and one more seed
+  pub seeding-push : {x : ℕ} {work′ : List ℕ} {r : ℕ} → x ≡ getD (section 0 n work) v 0 → x ≢ 0 → PushedIn n v work tail work′ r → Seeding n work₀ work′ r (v + 1)
+  seeding-push {work′ = work′} is o q =
+      record {
+        queued = pushed-queued (q .pushed);
+        is-reached = λ u h less f. is-reached u h less f (ℕ-discrete u v);
+        only = λ u h one. only u h one (ℕ-discrete u v);
+        beside = beside-more (s .beside) (q .beside);
+      }
+    where
+      is-reached : (u : ℕ) → u < n → u < v + 1 → getD (section 0 n work₀) u 0 ≢ 0 → Dec (u ≡ v) → getD (section 1 n work′) u 0 ≡ 1
+      is-reached u h less f (yes e) = ap (λ (k : ℕ). getD (section 1 n work′) k 0) e ∙ q .pushed .seeded .here
+      is-reached u h less f (no ne) = q .pushed .seeded .other u ne ∙ s .is-reached u h (omega arith) f
 
-pub seeding-all : {n : ℕ} {work₀ work : List ℕ} {tail v : ℕ} → Seeding n work₀ work tail v → n ≤ v → SeededAll n work₀ work tail
-seeding-all s l =
-    record {
-      queued = s .queued;
-      marked = λ u h o. s .marked u h (omega arith) o;
-      only = λ u h one. s .only u h one .1;
-      beside = s .beside;
-    }
+      only : (u : ℕ) → u < n → getD (section 1 n work′) u 0 ≡ 1 → Dec (u ≡ v) → (u < v + 1) × (getD (section 0 n work₀) u 0 ≢ 0)
+      only u h one (yes e) =
+          (omega arith, λ z. o (is ∙ flag ∙ subst (λ (k : ℕ). getD (section 0 n work₀) k 0 ≡ 0) e z))
+      only u h one (no ne) =
+          let i = s .only u h (sym (q .pushed .seeded .other u ne) ∙ one) in
+          (omega (arith, i .0), i .1)
+
+  pub seeding-all : n ≤ v → SeededAll n work₀ work tail
+  seeding-all l =
+      record {
+        queued = s .queued;
+        is-reached = λ u h o. s .is-reached u h (omega arith) o;
+        only = λ u h one. s .only u h one .1;
+        beside = s .beside;
+      }

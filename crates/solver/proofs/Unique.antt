@@ -10,11 +10,13 @@ use Rattle.refusal.specs.promise.Number.{numberOf}
 use Rattle.refusal.proofs.Rows.{first-not-none, first-unique}
 use Rattle.refusal.proofs.Numbers.{refusal-unique}
 use Rattle.game.specs.promise.Tables.{Tables, vertices, gameOf, WellFormed}
-use Rattle.game.specs.promise.Answer.{Answer, markOf, moveOf}
-use Rattle.game.specs.promise.Lent.{Lent, Fit, lentSizes}
-use Rattle.game.proofs.Stores.{same-marks}
-use Rattle.game.proofs.Zeros.{zeroed-unique}
-use Rattle.game.proofs.Lent.{lent-formed, lent-fit, lent-fits}
+use Rattle.storage.specs.promise.Answer.{Answer, markOf, moveOf}
+use Rattle.game.specs.promise.Lent.{Fit}
+use Rattle.storage.specs.promise.Lent.{Lent, lentSizes}
+use Rattle.storage.specs.parts.Answers.{Stored}
+use Rattle.storage.proofs.Stores.{same-marks}
+use Rattle.storage.proofs.Zeros.{zeroed-unique}
+use Rattle.storage.proofs.Passed.{lent-formed, lent-fit, lent-fits}
 use Rattle.winning.specs.promise.Answer.{Right}
 use Rattle.winning.proofs.Solutions.{solution-right, solutions-same}
 use Rattle.solver.specs.declared.Solved.{Solved}
@@ -42,7 +44,7 @@ said-unique (solved.Refused q) (solved.Refused r) e = ap solved.Refused (refusal
 
 -- two solutions of a well-formed game, in lists of its length
 pub solutions-lines :
-    (t : Tables) (a b : Answer) → WellFormed t → length (a .winners) ≡ vertices t → length (b .winners) ≡ vertices t →
+    (t : Tables) (a b : Answer) → WellFormed t → Stored (vertices t) (a .winners) → Stored (vertices t) (b .winners) →
     IsSolution t a → IsSolution t b → SameLines t a b
 solutions-lines t a b w la lb x y =
     let marks = solutions-same (gameOf t) (w .sound) (w .moving) (markOf (a .winners)) (moveOf (a .moves)) (markOf (b .winners)) (moveOf (b .moves)) x y in
@@ -58,7 +60,7 @@ module _ (t : Tables) (before : Lent) (bytes : (v : ℕ) → getD (t .priorities
       let f = lent-fit t _ _ _ (r .none) in
       record {
         said = ap success (r .no-value ∙ sym (s .no-value));
-        lines = solutions-lines t (x .answer) (y .answer) w (r .written .winners-long ∙ f .0) (s .written .winners-long ∙ f .0) (r .written .solution) (s .written .solution);
+        lines = solutions-lines t (x .answer) (y .answer) w (record { cells = r .written .winners-long ∙ f .0 }) (record { cells = s .written .winners-long ∙ f .0 }) (r .written .solution) (s .written .solution);
         work = zeroed-unique (r .written .zeroed) (s .written .zeroed);
         refused-same = λ k z e. let o : _≡_ {A = ℕ} 0 1 = cc in absurd (omega arith);
       }

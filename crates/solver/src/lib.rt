@@ -1,19 +1,19 @@
 // The solver: winners and moves of a game, by fixpoint iteration with justifications, one vertex at a time.
-use crate::settle::settle;
 use crate::start::open_all;
+use engine::settle::settle;
 use game::EDGES;
-use game::VERTICES;
-use game::buffers::test_lent;
-use reach::cells::fill;
-use reach::lists::predecessors;
+use preds::INS;
+use preds::build::predecessors;
 use refusal::Refusal;
 use refusal::Tested;
-ghost use Rattle.game.specs.promise.Lent.{asked, lent, buffers, given, left};
+use space::fill::fill;
+use storage::Winner;
+use storage::lent::test_lent;
+ghost use Rattle.game.specs.promise.Lent.{asked, lent};
+ghost use Rattle.storage.specs.promise.Lent.{buffers, given, left};
 ghost use Rattle.solver.specs.promise.Solving.{Solves, Written, solvedSaid};
 ghost use Rattle.solver.specs.parts.Starting.{Answerable};
 
-mod rounds;
-pub mod settle;
 mod start;
 
 // Solved, or the first of 1 to 8 that applies.
@@ -28,33 +28,24 @@ fn answer(
     priorities: &[u8],
     starts: &[u16],
     targets: &[u16],
-    winners: &mut [u8],
+    winners: &mut [Winner],
     moves: &mut [u16],
     work: &mut [u16],
 )
     requires { ⌜ Answerable (asked owners priorities starts targets) (buffers winners moves work) ⌝ }
     ensures { λ _. ⌜ Written (lent owners priorities starts targets) (given winners moves work) (left winners moves work) ⌝ }
 {
-    let mut heads = [0u16; VERTICES];
-    let mut nexts = [0u16; EDGES];
-    let mut sources = [0u16; EDGES];
-    predecessors(
-        owners.len(),
-        starts,
-        targets,
-        &mut heads,
-        &mut nexts,
-        &mut sources,
-    );
+    let mut ins = [0u16; INS];
+    let mut froms = [0u16; EDGES];
+    predecessors(owners, priorities, starts, targets, &mut ins, &mut froms);
     open_all(priorities, winners, work);
     settle(
         owners,
         priorities,
         starts,
         targets,
-        &heads,
-        &nexts,
-        &sources,
+        &ins,
+        &froms,
         winners,
         moves,
         work,
@@ -68,7 +59,7 @@ pub fn solve(
     priorities: &[u8],
     starts: &[u16],
     targets: &[u16],
-    winners: &mut [u8],
+    winners: &mut [Winner],
     moves: &mut [u16],
     work: &mut [u16],
 ) -> Solved

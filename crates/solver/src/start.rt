@@ -1,9 +1,12 @@
 // The start with nothing kept: every vertex is open, with the mark of its own priority's parity, and none is reached by a closure.
-use game::answer::set_mark;
 use player::Player;
+use space::work::set_flag;
+use space::work::set_reached;
+use storage::Winner;
+use storage::answer::set_mark;
 ghost use Rattle.solver.specs.parts.Starting.{Startable, AllOpen};
 
-pub fn open_all(priorities: &[u8], winners: &mut [u8], work: &mut [u16])
+pub fn open_all(priorities: &[u8], winners: &mut [Winner], work: &mut [u16])
     requires { ⌜ Startable (now priorities) (now winners) (now work) ⌝ }
     ensures { λ _. ⌜ AllOpen (now (priorities .entry)) (now (winners .entry)) (now (work .entry)) (now (winners .exit)) (now (work .exit)) ⌝ }
 {
@@ -11,8 +14,8 @@ pub fn open_all(priorities: &[u8], winners: &mut [u8], work: &mut [u16])
     let mut v = 0;
     while v < n {
         set_mark(winners, v, Player::of_priority(priorities[v]).bit);
-        work[v] = 1;
-        work[n + v] = 0;
+        set_flag(n, v, 1, work);
+        set_reached(n, v, 0, work);
         v += 1;
     }
 }

@@ -3,7 +3,7 @@ use Prim.Native.Nat.{ℕ, _<_}
 use mathlib.Core.Path.{_≡_, refl, _∙_}
 use mathlib.Core.List.{List}
 use lib.ListN.{getD}
-use Rattle.game.specs.promise.Answer.{markOf, moveOf}
+use Rattle.storage.specs.promise.Answer.{markOf, moveOf}
 use Rattle.game.specs.promise.Tables.{Tables, vertices}
 use Rattle.justification.specs.parts.Step.{Same}
 use Rattle.levels.specs.parts.Levels.{settledOf}

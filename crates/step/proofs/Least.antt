@@ -6,37 +6,38 @@ use native.Mathlib.Decide.{ℕ-discrete}
 use lib.ListN.{length, getD}
 use Rattle.player.specs.promise.Player.{parityOf}
 use Rattle.game.specs.promise.Tables.{gameOf, Tables, vertices}
-use Rattle.game.specs.promise.Answer.{markOf, moveOf}
+use Rattle.storage.specs.promise.Answer.{markOf, moveOf}
 use Rattle.justification.specs.parts.Safe.{Eligible}
 use Rattle.justification.proofs.Eligible.{least-eligible}
-use Rattle.reach.specs.parts.Work.{section}
+use Rattle.space.specs.parts.Work.{section}
+use Rattle.space.specs.parts.Desk.{Desk}
 use Rattle.pick.specs.parts.Order.{LeastOpen, NoneBelow}
 use Rattle.levels.specs.parts.Levels.{settledOf}
 use Rattle.levels.proofs.Flags.{flag-settled, settled-flag}
-use Rattle.step.specs.parts.Parts.{Testable, TestedBy}
+use Rattle.line.specs.parts.Testing.{Testable, TestedBy}
 use Rattle.step.specs.parts.Stepping.{Engine, Fitting, Moved, Falls}
 use Rattle.step.specs.parts.Turning.{SteppedIn}
 use Rattle.step.proofs.Steps.{stepped}
 
 -- the engine, and an open vertex of least priority
-pub record LeastSteppable (v : ℕ) (tables : Tables) (heads nexts sources firsts lasts waiting levels winners moves work : List ℕ) : Type 0 where
-  pub engine : Engine tables heads nexts sources firsts lasts waiting levels winners moves work
+pub record LeastSteppable (v : ℕ) (tables : Tables) (ins froms : List ℕ) (d : Desk) (winners moves work : List ℕ) : Type 0 where
+  pub engine : Engine tables ins froms d winners moves work
   pub least : LeastOpen (vertices tables) (tables .priorities) (section 0 (vertices tables) work) v
 
 -- the engine after one step, with a smaller measure; nothing below `low` is open
-pub record LeastStepped (tables : Tables) (heads nexts sources winners moves work firsts′ lasts′ waiting′ levels′ winners′ moves′ work′ : List ℕ) (low : ℕ) : Type 0 where
-  pub moved : Moved tables heads nexts sources winners moves work firsts′ lasts′ waiting′ levels′ winners′ moves′ work′
+pub record LeastStepped (tables : Tables) (ins froms winners moves work : List ℕ) (d′ : Desk) (winners′ moves′ work′ : List ℕ) (low : ℕ) : Type 0 where
+  pub moved : Moved tables ins froms winners moves work d′ winners′ moves′ work′
   pub falls : Falls tables winners work winners′ work′
   pub none-below : NoneBelow (vertices tables) (tables .priorities) (section 0 (vertices tables) work′) low
 
 module _
-    (v : ℕ) (tables : Tables) (heads nexts sources firsts lasts waiting levels winners moves work : List ℕ)
-    (s : LeastSteppable v tables heads nexts sources firsts lasts waiting levels winners moves work)
+    (v : ℕ) (tables : Tables) (ins froms : List ℕ) (d : Desk) (winners moves work : List ℕ)
+    (s : LeastSteppable v tables ins froms d winners moves work)
   where
     pub testable : Testable v tables winners
     testable =
         let t = s .engine .state in
-        record { well-formed = t .well-formed; vertex = s .least .vertex; room = t .winners-long; player = t .safe .player }
+        record { well-formed = t .well-formed; vertex = s .least .vertex; stored = t .stored; player = t .safe .player }
 
     -- whatever line the test gives, v's own priority will do as its level
     pub fitting : {p m k : ℕ} → TestedBy v tables winners p m → k ≡ getD (tables .priorities) v 0 → Fitting v p m k tables winners moves work
@@ -55,13 +56,13 @@ module _
     none-below = record { above = s .least .least }
 
     pub least-stepped :
-        {p m k r : ℕ} {firsts′ lasts′ waiting′ levels′ winners′ moves′ work′ : List ℕ} →
+        {p m k r : ℕ} {d′ : Desk} {winners′ moves′ work′ : List ℕ} →
         TestedBy v tables winners p m →
         k ≡ getD (tables .priorities) v 0 →
-        SteppedIn (length (tables .priorities)) v p m k (getD (tables .priorities) v 0) (tables .priorities) (tables .targets) sources firsts lasts waiting levels winners moves work firsts′ lasts′ waiting′ levels′ winners′ moves′ work′ r →
-        LeastStepped tables heads nexts sources winners moves work firsts′ lasts′ waiting′ levels′ winners′ moves′ work′ r
-    least-stepped {p} {m} {k} {r} {firsts′} {lasts′} {waiting′} {levels′} {winners′} {moves′} {work′} t e x =
-        let y = stepped v p m k tables heads nexts sources firsts lasts waiting levels winners moves work (s .engine) (fitting t e) x in
+        SteppedIn (length (tables .priorities)) v p m k (getD (tables .priorities) v 0) (tables .priorities) ins froms d winners moves work d′ winners′ moves′ work′ r →
+        LeastStepped tables ins froms winners moves work d′ winners′ moves′ work′ r
+    least-stepped {p} {m} {k} {r} {d′} {winners′} {moves′} {work′} t e x =
+        let y = stepped v p m k tables ins froms d winners moves work (s .engine) (fitting t e) x in
         record {
           moved = y .moved;
           falls = y .falls;

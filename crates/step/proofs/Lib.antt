@@ -1,7 +1,3 @@
-pub mod Tests
-pub mod Flags
-pub mod Opens
-pub mod Reopens
 pub mod Turns
 pub mod Settling
 pub mod Supports

@@ -6,36 +6,37 @@ use mathlib.Core.List.{List}
 use native.Mathlib.Omega.{arith}
 use lib.ListN.{length, getD}
 use Rattle.player.specs.promise.Player.{parityOf}
-use Rattle.game.specs.parts.Answers.{MoveSet}
-use Rattle.levels.specs.parts.Levels.{LevelSet}
-use Rattle.step.specs.parts.Parts.{FlagSet, Keepable}
+use Rattle.storage.specs.parts.Answers.{MoveSet}
+use Rattle.space.specs.parts.Desk.{Desk}
+use Rattle.levels.specs.parts.Levels.{LevelSet, LevelsOnly}
+use Rattle.step.specs.parts.Keeping.{Keepable}
+use Rattle.space.specs.parts.Work.{FlagSet}
 use Rattle.step.specs.parts.Turning.{Turnable, TurnedIn, SteppedIn}
 
-module _ {n v : ℕ} {priorities targets heads nexts sources firsts lasts waiting levels winners moves work : List ℕ} (p : Turnable n v priorities targets heads nexts sources firsts lasts waiting levels winners moves work) where
-  pub settlable : Keepable v levels moves work
+module _ {n v : ℕ} {priorities ins froms : List ℕ} {d : Desk} {winners moves work : List ℕ} (p : Turnable n v priorities ins froms d winners moves work) where
+  pub settlable : Keepable v d moves work
   settlable =
       record {
         small = omega (arith, p .standing .small, p .moves-long);
         vertex = omega (arith, p .vertex, p .moves-long);
-        levels-long = omega (arith, p .levels-long, p .moves-long);
+        laid = p .standing .laid;
         work-long = rw (p .moves-long) (p .standing .work-long);
       }
 
   pub by-keeping :
-      {q m k low : ℕ} {levels′ moves′ work′ : List ℕ} →
+      {q m k low : ℕ} {d′ : Desk} {moves′ work′ : List ℕ} →
       q ≡ parityOf (getD priorities v 0) →
       MoveSet moves moves′ v m →
-      LevelSet levels levels′ v k →
+      LevelSet (d .levels) (d′ .levels) v k →
+      LevelsOnly d d′ →
       FlagSet (length moves) v 0 work work′ →
-      SteppedIn n v q m k low priorities targets sources firsts lasts waiting levels winners moves work firsts lasts waiting levels′ winners moves′ work′ low
-  by-keeping {work′ = work′} e move level flag =
+      SteppedIn n v q m k low priorities ins froms d winners moves work d′ winners moves′ work′ low
+  by-keeping {work′ = work′} e move level only flag =
       record {
         kept =
             λ h.
             record {
-              firsts-same = refl;
-              lasts-same = refl;
-              waiting-same = refl;
+              only = only;
               winners-same = refl;
               move = move;
               level = level;
@@ -46,8 +47,8 @@ module _ {n v : ℕ} {priorities targets heads nexts sources firsts lasts waitin
       }
 
 pub by-turning :
-    {n v q m k low r : ℕ} {priorities targets sources firsts lasts waiting levels winners moves work firsts′ lasts′ waiting′ levels′ winners′ moves′ work′ : List ℕ} →
+    {n v q m k low r : ℕ} {priorities ins froms : List ℕ} {d : Desk} {winners moves work : List ℕ} {d′ : Desk} {winners′ moves′ work′ : List ℕ} →
     q ≢ parityOf (getD priorities v 0) →
-    TurnedIn n v q m k low priorities targets sources levels winners moves work firsts′ lasts′ waiting′ levels′ winners′ moves′ work′ r →
-    SteppedIn n v q m k low priorities targets sources firsts lasts waiting levels winners moves work firsts′ lasts′ waiting′ levels′ winners′ moves′ work′ r
+    TurnedIn n v q m k low priorities ins froms d winners moves work d′ winners′ moves′ work′ r →
+    SteppedIn n v q m k low priorities ins froms d winners moves work d′ winners′ moves′ work′ r
 by-turning ne t = record { kept = λ e. absurd (ne e); turned = λ h. t }

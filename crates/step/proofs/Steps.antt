@@ -9,8 +9,8 @@ use lib.ListN.{length, getD}
 use Rattle.player.specs.promise.Player.{parityOf, opponentOf}
 use Rattle.game.specs.promise.Game.{Game}
 use Rattle.game.specs.promise.Tables.{gameOf, Tables, vertices}
-use Rattle.game.specs.promise.Answer.{markRoom, markOf, moveOf}
-use Rattle.game.proofs.Stores.{room-is}
+use Rattle.storage.specs.promise.Answer.{markOf, moveOf}
+use Rattle.storage.proofs.Stores.{still-stored}
 use Rattle.justification.specs.parts.Safe.{Safe, Onward, Eligible, Levelled}
 use Rattle.justification.specs.parts.Step.{TestGives, Kept, Turned, Same, Leaning}
 use Rattle.justification.proofs.KeepStep.{keeps}
@@ -18,9 +18,11 @@ use Rattle.justification.proofs.TurnStep.{turns}
 use Rattle.justification.proofs.Falls.{keeps-falls, turns-falls}
 use Rattle.justification.proofs.Levels.{kept-levelled, turned-levelled}
 use Rattle.justification.proofs.Started.{never-reopened}
-use Rattle.reach.specs.parts.Lists.{Filled}
-use Rattle.reach.specs.parts.Work.{section}
-use Rattle.pick.specs.parts.Lines.{Lines, Covered}
+use Rattle.lists.specs.parts.Cells.{Filled}
+use Rattle.space.specs.parts.Work.{section}
+use Rattle.space.specs.parts.Desk.{Desk, Laid}
+use Rattle.pick.specs.parts.Lines.{Covered}
+use Rattle.pick.specs.parts.Moves.{LinesOf}
 use Rattle.pick.proofs.Picking.{standing-lines}
 use Rattle.levels.specs.parts.Levels.{settledOf, levelOf}
 use Rattle.levels.proofs.Flags.{flag-settled, settled-flag, same-settled}
@@ -31,13 +33,13 @@ use Rattle.step.proofs.Supports.{leaning}
 use Rattle.step.proofs.Carry.{carried-same}
 
 -- the engine after a step, with a smaller measure
-pub record Stepped (tables : Tables) (heads nexts sources winners moves work firsts′ lasts′ waiting′ levels′ winners′ moves′ work′ : List ℕ) : Type 0 where
-  pub moved : Moved tables heads nexts sources winners moves work firsts′ lasts′ waiting′ levels′ winners′ moves′ work′
+pub record Stepped (tables : Tables) (ins froms winners moves work : List ℕ) (d′ : Desk) (winners′ moves′ work′ : List ℕ) : Type 0 where
+  pub moved : Moved tables ins froms winners moves work d′ winners′ moves′ work′
   pub falls : Falls tables winners work winners′ work′
 
 module _
-    (v p m k : ℕ) (tables : Tables) (heads nexts sources firsts lasts waiting levels winners moves work : List ℕ)
-    (s : Engine tables heads nexts sources firsts lasts waiting levels winners moves work)
+    (v p m k : ℕ) (tables : Tables) (ins froms : List ℕ) (d : Desk) (winners moves work : List ℕ)
+    (s : Engine tables ins froms d winners moves work)
     (f : Fitting v p m k tables winners moves work)
   where
     abbrev g : Game
@@ -59,57 +61,54 @@ module _
     outside : (kept : List ℕ) → KeptSet tables work kept → (u : ℕ) → getD kept u 0 ≡ 1 → u ≢ v
     outside kept h u one e = unsettled (h .settled v vertex (subst (λ (x : ℕ). getD kept x 0 ≡ 1) e one))
 
-    module _ (firsts′ lasts′ waiting′ levels′ winners′ moves′ work′ : List ℕ) where
+    module _ (d′ : Desk) (winners′ moves′ work′ : List ℕ) where
       abbrev SameAt : ℕ → Type 0
       SameAt = Same (markOf winners) (moveOf moves) (settledOf n work) (markOf winners′) (moveOf moves′) (settledOf n work′)
 
       -- the engine of the lists after the step
       engine :
-          markRoom winners′ ≡ markRoom winners →
+          length winners′ ≡ length winners →
           length moves′ ≡ length moves →
           length work′ ≡ length work →
-          length waiting′ ≡ 2048 →
-          length levels′ ≡ length levels →
+          Laid d′ →
           Filled (section 1 n work′) 0 →
-          Lines n (tables .priorities) waiting′ firsts′ lasts′ (section 3 n work′) →
-          Covered n (section 0 n work′) waiting′ →
+          LinesOf n (tables .priorities) d′ work′ →
+          Covered n (section 0 n work′) (d′ .waiting) →
           Safe g (markOf winners′) (moveOf moves′) (settledOf n work′) →
-          Levelled g (markOf winners′) (moveOf moves′) (settledOf n work′) (levelOf levels′) →
-          Engine tables heads nexts sources firsts′ lasts′ waiting′ levels′ winners′ moves′ work′
-      engine marks-long moves-long work-long waiting-long levels-long unreached lines covered safe′ levelled =
+          Levelled g (markOf winners′) (moveOf moves′) (settledOf n work′) (levelOf (d′ .levels)) →
+          Engine tables ins froms d′ winners′ moves′ work′
+      engine winners-long moves-long work-long laid unreached lines covered safe′ levelled =
           let t = s .state in
           record {
             state =
                 record {
                   well-formed = t .well-formed;
-                  winners-long = marks-long ∙ t .winners-long;
+                  stored = still-stored (t .stored) winners-long;
                   moves-long = moves-long ∙ t .moves-long;
                   work-long = work-long ∙ t .work-long;
                   unreached = unreached;
                   safe = safe′;
                 };
             preds = s .preds;
-            edges = s .edges;
-            standing = standing-lines (s .standing) waiting-long (work-long ∙ t .work-long) lines;
+            standing = standing-lines (s .standing) laid (work-long ∙ t .work-long) lines;
             covered = covered;
-            levels-long = omega (arith, levels-long, s .levels-long);
             levelled = levelled;
           }
 
     -- settling v with the mark that it has
     kept-stepped :
-        {low r : ℕ} {firsts′ lasts′ waiting′ levels′ winners′ moves′ work′ : List ℕ} →
+        {low r : ℕ} {d′ : Desk} {winners′ moves′ work′ : List ℕ} →
         p ≡ parityOf (getD (tables .priorities) v 0) →
-        KeptIn (vertices tables) v m k low firsts lasts waiting levels winners moves work firsts′ lasts′ waiting′ levels′ winners′ moves′ work′ r →
-        Stepped tables heads nexts sources winners moves work firsts′ lasts′ waiting′ levels′ winners′ moves′ work′
-    kept-stepped {low} {r} {firsts′} {lasts′} {waiting′} {levels′} {winners′} {moves′} {work′} e t =
-        rw (t .firsts-same, t .lasts-same, t .waiting-same, t .winners-same)
+        KeptIn (vertices tables) v m k low d winners moves work d′ winners′ moves′ work′ r →
+        Stepped tables ins froms winners moves work d′ winners′ moves′ work′
+    kept-stepped {low} {r} {d′} {winners′} {moves′} {work′} e t =
+        rw (t .winners-same)
         (record {
           moved =
               record {
                 engine =
-                    engine firsts lasts waiting levels′ winners moves′ work′ refl (t .move .long) (t .flag .long) (s .standing .waiting-long) (t .level .long)
-                    (rw (t .flag .reached) (s .state .unreached)) (rw (t .flag .links) (s .standing .lines)) covered
+                    engine d′ winners moves′ work′ refl (t .move .long) (t .flag .long) (t .only .laid)
+                    (rw (t .flag .reached) (s .state .unreached)) (rw (t .only .waiting, t .only .firsts, t .only .lasts, t .flag .links) (s .standing .lines)) (rw (t .only .waiting) covered)
                     (keeps g _ _ _ _ _ _ v m safe eligible tested kept)
                     (kept-levelled g _ _ _ _ _ _ v m eligible kept (s .levelled) onward (λ u l ne. t .level .other u ne));
                 winners-long = refl;
@@ -124,7 +123,7 @@ module _
         tested : TestGives (gameOf tables) (markOf winners) v (parityOf (getD (tables .priorities) v 0)) m
         tested = rw e at (f .tested)
 
-        onward : Onward (gameOf tables) (markOf winners) (moveOf moves) (settledOf (vertices tables) work) v (parityOf (getD (tables .priorities) v 0)) m (levelOf levels′ v)
+        onward : Onward (gameOf tables) (markOf winners) (moveOf moves) (settledOf (vertices tables) work) v (parityOf (getD (tables .priorities) v 0)) m (levelOf (d′ .levels) v)
         onward = rw (e, sym (t .level .here)) at (f .onward)
 
         same : (u : ℕ) → u ≢ v → Same (markOf winners) (moveOf moves) (settledOf (vertices tables) work) (markOf winners) (moveOf moves′) (settledOf (vertices tables) work′) u
@@ -138,7 +137,7 @@ module _
             }
 
         -- what is open now was open before
-        covered : Covered (vertices tables) (section 0 (vertices tables) work′) waiting
+        covered : Covered (vertices tables) (section 0 (vertices tables) work′) (d .waiting)
         covered = record { waits = λ u l o. s .covered .waits u l (λ z. o (t .flag .other u (not-v u o) ∙ z)) }
           where
             not-v : (u : ℕ) → getD (section 0 (vertices tables) work′) u 0 ≢ 0 → u ≢ v
@@ -146,20 +145,20 @@ module _
 
     -- turning v
     turned-stepped :
-        {low r : ℕ} {firsts′ lasts′ waiting′ levels′ winners′ moves′ work′ : List ℕ} →
+        {low r : ℕ} {d′ : Desk} {winners′ moves′ work′ : List ℕ} →
         p ≢ parityOf (getD (tables .priorities) v 0) →
-        TurnedIn (vertices tables) v p m k low (tables .priorities) (tables .targets) sources levels winners moves work firsts′ lasts′ waiting′ levels′ winners′ moves′ work′ r →
-        Stepped tables heads nexts sources winners moves work firsts′ lasts′ waiting′ levels′ winners′ moves′ work′
-    turned-stepped {low} {r} {firsts′} {lasts′} {waiting′} {levels′} {winners′} {moves′} {work′} ne t =
+        TurnedIn (vertices tables) v p m k low (tables .priorities) ins froms d winners moves work d′ winners′ moves′ work′ r →
+        Stepped tables ins froms winners moves work d′ winners′ moves′ work′
+    turned-stepped {low} {r} {d′} {winners′} {moves′} {work′} ne t =
         record {
           moved =
               record {
                 engine =
-                    engine firsts′ lasts′ waiting′ levels′ winners′ moves′ work′ (t .room) (t .move .long) (t .long) (t .waiting-long) (t .level .long)
+                    engine d′ winners′ moves′ work′ (t .winners-long) (t .move .long) (t .long) (t .laid)
                     (t .unreached) (t .lines) (t .covered)
                     (turns g _ _ _ _ _ _ _ v m safe eligible tested leans turned)
                     (turned-levelled g _ _ _ _ _ _ _ v m safe eligible tested leans turned (s .levelled) onward (λ u l ne. t .level .other u ne));
-                winners-long = sym (room-is winners′) ∙ t .room ∙ room-is winners;
+                winners-long = t .winners-long;
                 carried = carried-same (λ h a u l one. same u l (outside h a u one) (apart h a u l one));
               };
           falls = record { less = turns-falls g _ _ _ _ _ _ _ v m safe vertex unsettled leans turned };
@@ -174,11 +173,11 @@ module _
         tested : TestGives (gameOf tables) (markOf winners) v (opponentOf (parityOf (getD (tables .priorities) v 0))) m
         tested = rw e at (f .tested)
 
-        onward : Onward (gameOf tables) (markOf winners) (moveOf moves) (settledOf (vertices tables) work) v (opponentOf (parityOf (getD (tables .priorities) v 0))) m (levelOf levels′ v)
+        onward : Onward (gameOf tables) (markOf winners) (moveOf moves) (settledOf (vertices tables) work) v (opponentOf (parityOf (getD (tables .priorities) v 0))) m (levelOf (d′ .levels) v)
         onward = rw (e, sym (t .level .here)) at (f .onward)
 
         leans : Leaning (gameOf tables) (markOf winners) (moveOf moves) (settledOf (vertices tables) work) v (λ u. getD (t .reached) u 0 ≡ 1)
-        leans = leaning tables winners moves work sources (s .state .well-formed .sound) (s .edges) safe (t .leaning)
+        leans = leaning tables winners moves work ins froms (s .state .well-formed .sound) (s .state .moves-long) (s .preds) safe (t .leaning)
 
         same : (u : ℕ) → u < vertices tables → u ≢ v → getD (t .reached) u 0 ≢ 1 → Same (markOf winners) (moveOf moves) (settledOf (vertices tables) work) (markOf winners′) (moveOf moves′) (settledOf (vertices tables) work′) u
         same u l ne out =
@@ -206,7 +205,7 @@ module _
             }
 
     -- the step of the lists asks what the engine has
-    pub turnable : Turnable (length (tables .priorities)) v (tables .priorities) (tables .targets) heads nexts sources firsts lasts waiting levels winners moves work
+    pub turnable : Turnable (length (tables .priorities)) v (tables .priorities) ins froms d winners moves work
     turnable =
         let t = s .state in
         rw (t .well-formed .level)
@@ -214,22 +213,21 @@ module _
           vertex = vertex;
           standing = s .standing;
           covered = s .covered;
-          room = t .winners-long;
+          stored = t .stored;
           moves-long = t .moves-long;
-          levels-long = omega (arith, s .levels-long, s .standing .small);
           unreached = t .unreached;
-          preds = s .preds;
+          back = s .preds .backward;
         })
 
     -- and gives a step of the method
     pub stepped :
-        {low r : ℕ} {firsts′ lasts′ waiting′ levels′ winners′ moves′ work′ : List ℕ} →
-        SteppedIn (length (tables .priorities)) v p m k low (tables .priorities) (tables .targets) sources firsts lasts waiting levels winners moves work firsts′ lasts′ waiting′ levels′ winners′ moves′ work′ r →
-        Stepped tables heads nexts sources winners moves work firsts′ lasts′ waiting′ levels′ winners′ moves′ work′
-    stepped {low} {r} {firsts′} {lasts′} {waiting′} {levels′} {winners′} {moves′} {work′} t =
+        {low r : ℕ} {d′ : Desk} {winners′ moves′ work′ : List ℕ} →
+        SteppedIn (length (tables .priorities)) v p m k low (tables .priorities) ins froms d winners moves work d′ winners′ moves′ work′ r →
+        Stepped tables ins froms winners moves work d′ winners′ moves′ work′
+    stepped {low} {r} {d′} {winners′} {moves′} {work′} t =
         elim (ℕ-discrete p (parityOf (getD (tables .priorities) v 0))) [
-          | yes e ↦ kept-stepped e (subst (λ (x : ℕ). KeptIn x v m k low firsts lasts waiting levels winners moves work firsts′ lasts′ waiting′ levels′ winners′ moves′ work′ r) level (t .kept e))
-          | no ne ↦ turned-stepped ne (subst (λ (x : ℕ). TurnedIn x v p m k low (tables .priorities) (tables .targets) sources levels winners moves work firsts′ lasts′ waiting′ levels′ winners′ moves′ work′ r) level (t .turned ne))
+          | yes e ↦ kept-stepped e (subst (λ (x : ℕ). KeptIn x v m k low d winners moves work d′ winners′ moves′ work′ r) level (t .kept e))
+          | no ne ↦ turned-stepped ne (subst (λ (x : ℕ). TurnedIn x v p m k low (tables .priorities) ins froms d winners moves work d′ winners′ moves′ work′ r) level (t .turned ne))
         ]
       where
         level : length (tables .priorities) ≡ vertices tables

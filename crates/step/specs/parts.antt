@@ -1,4 +1,4 @@
 pub mod State
 pub mod Stepping
-pub mod Parts
+pub mod Keeping
 pub mod Turning

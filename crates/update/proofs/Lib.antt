@@ -1,14 +1,5 @@
-pub mod Differing
-pub mod Counts
-pub mod Reaching
 pub mod SecondKinds
 pub mod Rows
 pub mod Unique
-pub mod Seeds
-pub mod Copies
-pub mod Marks
-pub mod Preparing
-pub mod Keeping
-pub mod Anew
 pub mod Redoings
 pub mod Outcomes

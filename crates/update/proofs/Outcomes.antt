@@ -2,7 +2,7 @@
 use Prim.Native.Nat.{ℕ, _<_}
 use mathlib.Core.Path.{_≡_, refl, sym, subst, _∙_}
 use mathlib.Core.List.{List}
-use lib.ListN.{getD}
+use lib.ListN.{length, getD}
 use Rattle.refusal.specs.promise.Row.{None, Gives}
 use Rattle.refusal.specs.promise.Number.{numberOf, saidOf}
 use Rattle.refusal.specs.parts.Found.{testedSaid}
@@ -11,13 +11,15 @@ use Rattle.refusal.specs.declared.Tested.{Tested}
 use Rattle.refusal.specs.declared.Tested.the-variants as tested
 use Rattle.refusal.proofs.Rows.{tested-refused, first-left, first-right}
 use Rattle.game.specs.promise.Tables.{gameOf, WellFormed}
-use Rattle.game.specs.promise.Answer.{markOf, moveOf}
-use Rattle.game.specs.promise.Lent.{Lent}
-use Rattle.game.proofs.Stores.{room-is}
-use Rattle.game.proofs.Zeros.{zeroed-more}
+use Rattle.storage.specs.promise.Answer.{markOf, moveOf}
+use Rattle.storage.specs.promise.Lent.{Lent}
+use Rattle.storage.proofs.Stores.{marks-players}
+use Rattle.storage.proofs.Zeros.{zeroed-more}
 use Rattle.game.proofs.WellFormed.{well-formed}
 use Rattle.winning.specs.promise.Faults.{Accepted}
 use Rattle.winning.proofs.Accepted.{accepted-right}
+use Rattle.preds.specs.parts.Preds.{Preds}
+use Rattle.preds.specs.parts.Build.{Buildable}
 use Rattle.checker.specs.declared.Verdict.{Verdict}
 use Rattle.checker.specs.declared.Verdict.the-variants as verdicts
 use Rattle.checker.specs.parts.Judging.{Judgeable, Judged}
@@ -51,12 +53,26 @@ module _ (i : Input) (l : Lent) where
     formed : WellFormed (i .first)
     formed = well-formed (i .first) bytes (free .first)
 
-    pub judging-asks : Judgeable (i .first) (i .old) (l .work)
-    judging-asks =
+    pub building-asks : {ins froms : List ℕ} → length ins ≡ 2049 → length froms ≡ 16384 → Buildable (i .first) ins froms
+    building-asks x y = record { well-formed = formed; ins-long = x; froms-long = y }
+
+    pub judging-asks : {ins froms : List ℕ} → Preds (gameOf (i .first)) ins froms → Judgeable (i .first) (i .old) ins froms (l .work)
+    judging-asks p =
         record {
-          answered = record { well-formed = formed; winners-long = room-is _ ∙ free .fit .0; moves-long = free .fit .1 .0 };
-          work-long = free .fit .1 .1 .1 .1 .0;
+          passed =
+              record {
+                answered = record { well-formed = formed; stored = record { cells = free .fit .0 }; moves-long = free .fit .1 .0 };
+                work-long = free .fit .1 .1 .1 .1 .0;
+              };
+          preds = p;
         }
+
+    module _ (bytes2 : (v : ℕ) → getD (i .second .priorities) v 0 < 256) where
+      second : WellFormed (i .second)
+      second = well-formed (i .second) bytes2 (free .second)
+
+      pub building-asks-2 : {ins froms : List ℕ} → length ins ≡ 2049 → length froms ≡ 16384 → Buildable (i .second) ins froms
+      building-asks-2 x y = record { well-formed = second; ins-long = x; froms-long = y }
 
     module _ {v : Verdict} {work₁ : List ℕ} (j : Judged (i .first) (i .old) (l .work) work₁ (verdictSaid v)) where
       -- a refusal by the checker leaves the work space all zero
@@ -71,16 +87,19 @@ module _ (i : Input) (l : Lent) where
           })
 
       accepted : v ≡ verdicts.Accepted → Accepted (gameOf (i .first)) (markOf (i .old .winners)) (moveOf (i .old .moves))
-      accepted e = subst (λ (v : Verdict). Gives (judgeRows (i .first) (i .old)) (verdictSaid v)) e (j .gives)
+      accepted e =
+          let n = subst (λ (v : Verdict). Gives (judgeRows (i .first) (i .old)) (verdictSaid v)) e (j .gives) in
+          record { players = marks-players (n .0); none = n .1 }
 
-      pub redoing-asks : ((v : ℕ) → getD (i .second .priorities) v 0 < 256) → v ≡ verdicts.Accepted → Redoable i (withWork l work₁)
-      redoing-asks bytes2 e =
+      pub redoing-asks : {ins froms : List ℕ} → ((v : ℕ) → getD (i .second .priorities) v 0 < 256) → v ≡ verdicts.Accepted → Preds (gameOf (i .second)) ins froms → Redoable i (withWork l work₁) ins froms
+      redoing-asks bytes2 e p =
           let f = free .fit in
           record {
             paired = record { first = formed; second = well-formed (i .second) bytes2 (free .second); size = free .size };
             fit = (f .0, (f .1 .0, (f .1 .1 .0, (f .1 .1 .1 .0, (j .zeroed .long ∙ f .1 .1 .1 .1 .0, tt)))));
             accepted = accepted e;
             blank = record { all = j .zeroed .zero };
+            preds = p;
           }
 
       pub done : {after : Lent} {count : ℕ} → v ≡ verdicts.Accepted → RedoneTo i (withWork l work₁) after count → Updates i l after (updatedSaid (updated.Done count))

@@ -6,96 +6,85 @@ use native.Mathlib.Decide.{ℕ-discrete}
 use native.Mathlib.Omega.{arith}
 use lib.ListN.{length, getD}
 use Rattle.game.specs.promise.Tables.{Tables, vertices, gameOf}
-use Rattle.game.specs.promise.Lent.{Lent}
-use Rattle.game.proofs.Stores.{room-is}
-use Rattle.game.proofs.Zeros.{zeroed-more}
+use Rattle.storage.specs.promise.Lent.{Lent}
+use Rattle.storage.specs.promise.Answer.{winnerCells}
+use Rattle.storage.proofs.Zeros.{zeroed-more}
 use Rattle.winning.proofs.Won.{accepted-solution}
-use Rattle.reach.specs.parts.Lists.{nil, Filled}
-use Rattle.reach.specs.parts.Build.{Buildable, Built}
-use Rattle.reach.proofs.Tables.{buildable}
-use Rattle.update.specs.promise.Amended.{CountOf}
+use Rattle.amend.specs.promise.Amended.{CountOf}
 use Rattle.update.specs.promise.Updating.{Input, Redone}
-use Rattle.update.specs.parts.Marking.{Findable, FoundReached}
-use Rattle.update.specs.parts.Deciding.{OldKept, Decidable, DecidedAnew}
+use Rattle.amend.specs.parts.Marking.{Findable, FoundReached}
+use Rattle.anew.specs.parts.Deciding.{OldKept, Decidable, DecidedAnew}
 use Rattle.update.specs.parts.Redoing.{Redoable, RedoneTo}
-use Rattle.update.proofs.Reaching.{kept-agree, kept-closed}
+use Rattle.amend.proofs.Reaching.{kept-agree, kept-closed}
 
-module _ (i : Input) (lent : Lent) (a : Redoable i lent) where
+module _ (i : Input) (lent : Lent) {ins froms : List ℕ} (a : Redoable i lent ins froms) where
   abbrev t : Tables
   t = i .second
 
   abbrev size : vertices (i .first) ≡ vertices t
   size = a .paired .size
 
-  pub building-asks : {heads nexts sources : List ℕ} → length heads ≡ 2048 → length nexts ≡ 16384 → length sources ≡ 16384 → Buildable (vertices t) (t .starts) (t .targets) heads nexts sources
-  building-asks {heads} {nexts} {sources} x y z = buildable t heads nexts sources (a .paired .second) x y z
+  pub marking-asks : {reached : List ℕ} → length reached ≡ 2048 → Findable (i .first) t ins froms reached (lent .work)
+  marking-asks room =
+      record {
+        seedable = record { paired = a .paired; long = a .fit .1 .1 .1 .1 .0 ∙ ap (λ (n : ℕ). 4 * n) size; blank = a .blank };
+        preds = a .preds;
+        reached-room = omega (arith, a .paired .second .sound .few);
+      }
 
-  -- the predecessor lists are built, and no vertex has a choice
-  module _ {heads₀ nexts₀ sources₀ heads nexts sources choice : List ℕ} (b : Built (vertices t) (t .starts) (t .targets) heads₀ nexts₀ sources₀ heads nexts sources) (long : length choice ≡ length (lent .answer .moves)) (free : Filled choice nil) where
-    pub marking-asks : {reached : List ℕ} → length reached ≡ 2048 → Findable (i .first) t heads nexts sources reached choice (lent .work)
-    marking-asks room =
+  -- what is reached has its flag
+  module _ {reached work : List ℕ} {count : ℕ} (m : FoundReached (i .first) t (lent .work) reached work count) where
+    not-redone : (v : ℕ) → v < vertices t → getD reached v 0 ≡ 0 → ¬ Redone i v
+    not-redone v l e r = let one = m .flags .marked v l r in omega arith
+
+    not-reached : (v : ℕ) → v < vertices t → ¬ Redone i v → getD reached v 0 ≡ 0
+    not-reached v l h =
+        let flag = m .flags .flag v l in
+        elim (ℕ-discrete (getD reached v 0) 1) [ yes e ↦ absurd (h (m .flags .holds v l e)) | no ne ↦ omega arith ]
+
+    kept : OldKept t (i .old .winners) (i .old .moves) reached
+    kept =
         record {
-          seedable = record { paired = a .paired; long = a .fit .1 .1 .1 .1 .0 ∙ ap (λ (n : ℕ). 4 * n) size; blank = a .blank };
-          preds = b .preds;
-          edges = b .edges;
-          reached-room = omega (arith, a .paired .second .sound .few);
-          choice-long = long ∙ a .fit .1 .1 .1 .0 ∙ size;
-          no-choice = free;
+          first = gameOf (i .first);
+          size = size;
+          accepted = a .accepted;
+          agree = λ v l e. kept-agree (gameOf (i .first)) (gameOf t) size v l (not-redone v l e);
+          closed = λ v w e s. not-reached w (s .to) (kept-closed (gameOf (i .first)) (gameOf t) size v w (not-redone v (s .from) e) s);
         }
 
-    -- what is reached has its flag
-    module _ {reached work : List ℕ} {count : ℕ} (m : FoundReached (i .first) t (lent .work) reached work count) where
-      not-redone : (v : ℕ) → v < vertices t → getD reached v 0 ≡ 0 → ¬ Redone i v
-      not-redone v l e r = let one = m .flags .marked v l r in omega arith
+    pub deciding-asks : length reached ≡ 2048 → Decidable t (i .old .winners) (i .old .moves) reached ins froms (lent .answer .winners) (lent .answer .moves) work
+    deciding-asks room =
+        record {
+          well-formed = a .paired .second;
+          preds = a .preds;
+          preparable =
+              record {
+                priorities-long = a .paired .second .level;
+                small = a .paired .second .sound .few;
+                old-stored = record { cells = a .fit .0 ∙ ap winnerCells size };
+                old-moves-long = a .fit .1 .0 ∙ size;
+                reached-room = omega (arith, a .paired .second .sound .few);
+                stored = record { cells = a .fit .1 .1 .0 ∙ ap winnerCells size };
+                moves-long = a .fit .1 .1 .1 .0 ∙ size;
+                work-long = m .zeroed .long ∙ a .fit .1 .1 .1 .1 .0 ∙ ap (λ (n : ℕ). 4 * n) size;
+                blank = record { all = m .zeroed .zero };
+              };
+          kept = kept;
+        }
 
-      not-reached : (v : ℕ) → v < vertices t → ¬ Redone i v → getD reached v 0 ≡ 0
-      not-reached v l h =
-          let flag = m .flags .flag v l in
-          elim (ℕ-discrete (getD reached v 0) 1) [ yes e ↦ absurd (h (m .flags .holds v l e)) | no ne ↦ omega arith ]
-
-      kept : OldKept t (i .old .winners) (i .old .moves) reached
-      kept =
-          record {
-            first = gameOf (i .first);
-            size = size;
-            accepted = a .accepted;
-            agree = λ v l e. kept-agree (gameOf (i .first)) (gameOf t) size v l (not-redone v l e);
-            closed = λ v w e s. not-reached w (s .to) (kept-closed (gameOf (i .first)) (gameOf t) size v w (not-redone v (s .from) e) s);
-          }
-
-      pub deciding-asks : length reached ≡ 2048 → Decidable t (i .old .winners) (i .old .moves) reached heads nexts sources (lent .answer .winners) choice work
-      deciding-asks room =
-          record {
-            well-formed = a .paired .second;
-            preds = b .preds;
-            edges = b .edges;
-            preparable =
-                record {
-                  priorities-long = a .paired .second .level;
-                  old-winners-room = room-is _ ∙ a .fit .0 ∙ size;
-                  old-moves-long = a .fit .1 .0 ∙ size;
-                  reached-room = omega (arith, a .paired .second .sound .few);
-                  winners-room = room-is _ ∙ a .fit .1 .1 .0 ∙ size;
-                  moves-long = long ∙ a .fit .1 .1 .1 .0 ∙ size;
-                  work-long = m .zeroed .long ∙ a .fit .1 .1 .1 .1 .0 ∙ ap (λ (n : ℕ). 4 * n) size;
-                  blank = record { all = m .zeroed .zero };
-                };
-            kept = kept;
-          }
-
-      pub redone :
-          {winners′ moves′ work′ : List ℕ} → DecidedAnew t (i .old .winners) (i .old .moves) reached (lent .answer .winners) choice work winners′ moves′ work′ →
-          RedoneTo i lent (record { answer = record { winners = winners′; moves = moves′ }; work = work′ }) count
-      redone d =
-          let sound = a .paired .second .sound in
-          record {
-            counted = subst (λ (n : ℕ). CountOf (Redone i) n count) (sym size) (m .number);
-            written =
-                record {
-                  winners-long = d .winners-long;
-                  moves-long = d .moves-long ∙ long;
-                  solution = accepted-solution (gameOf t) _ _ sound (a .paired .second .moving) (d .accepted);
-                  zeroed = zeroed-more (m .zeroed) (d .zeroed);
-                };
-            kept = λ v l h. let k = subst (λ (n : ℕ). v < n) size l in record { mark = d .kept-mark v k (not-reached v k h); move = d .kept-move v k (not-reached v k h) };
-          }
+    pub redone :
+        {winners′ moves′ work′ : List ℕ} → DecidedAnew t (i .old .winners) (i .old .moves) reached (lent .answer .winners) (lent .answer .moves) work winners′ moves′ work′ →
+        RedoneTo i lent (record { answer = record { winners = winners′; moves = moves′ }; work = work′ }) count
+    redone d =
+        let sound = a .paired .second .sound in
+        record {
+          counted = subst (λ (n : ℕ). CountOf (Redone i) n count) (sym size) (m .number);
+          written =
+              record {
+                winners-long = d .winners-long;
+                moves-long = d .moves-long;
+                solution = accepted-solution (gameOf t) _ _ sound (a .paired .second .moving) (d .accepted);
+                zeroed = zeroed-more (m .zeroed) (d .zeroed);
+              };
+          kept = λ v l h. let k = subst (λ (n : ℕ). v < n) size l in record { mark = d .kept-mark v k (not-reached v k h); move = d .kept-move v k (not-reached v k h) };
+        }

@@ -13,7 +13,8 @@ use Rattle.refusal.specs.declared.TableFault.{TableFault}
 use Rattle.refusal.proofs.Rows.{none-append, none-left, none-right, first-left, first-right, first-number}
 use Rattle.game.specs.promise.Tables.{vertices}
 use Rattle.game.specs.promise.Faults.{tableRows}
-use Rattle.game.specs.promise.Lent.{Lent, Fit, Fault8, Judging}
+use Rattle.game.specs.promise.Lent.{Fit, Fault8}
+use Rattle.storage.specs.promise.Lent.{Lent, Judging}
 use Rattle.game.proofs.Sizes.{fit-of-none, none-of-fit}
 use Rattle.update.specs.promise.Updating.{Input, secondRows, Fault9, updateSizes, testRows}
 use Rattle.update.proofs.SecondKinds.{second-number}

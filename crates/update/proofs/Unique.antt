@@ -9,18 +9,19 @@ use Rattle.refusal.specs.promise.Row.{Said, success, refused, None}
 use Rattle.refusal.specs.promise.Number.{numberOf}
 use Rattle.refusal.proofs.Rows.{first-not-none, first-unique, none-append}
 use Rattle.refusal.proofs.Numbers.{refusal-unique}
-use Rattle.game.specs.promise.Tables.{vertices, gameOf, WellFormed}
-use Rattle.game.specs.promise.Answer.{markOf, moveOf}
-use Rattle.game.specs.promise.Lent.{Lent, Fit}
-use Rattle.game.proofs.Zeros.{zeroed-unique, leaves-unique}
+use Rattle.game.specs.promise.Tables.{vertices, WellFormed}
+use Rattle.storage.specs.promise.Answer.{moveOf, winnerCells}
+use Rattle.game.specs.promise.Lent.{Fit}
+use Rattle.storage.specs.promise.Lent.{Lent}
+use Rattle.storage.proofs.Zeros.{zeroed-unique, leaves-unique}
 use Rattle.game.proofs.WellFormed.{well-formed, none-applies}
-use Rattle.winning.proofs.Accepted.{right-accepted}
+use Rattle.checker.proofs.Verdicts as verdicts
 use Rattle.checker.specs.promise.Checking.{IsRight, judgeRows}
 use Rattle.solver.proofs.Unique.{SameLines, solutions-lines}
 use Rattle.update.specs.declared.Updated.{Updated}
 use Rattle.update.specs.declared.Updated.the-variants.{Done, Refused}
 use Rattle.update.specs.promise.Updating.{Input, updateSizes, testRows, updateRows, updatedSaid, Redone, Decided, Undecided, Updates}
-use Rattle.update.proofs.Counts.{count-unique}
+use Rattle.amend.proofs.Counts.{count-unique}
 use Rattle.update.proofs.Rows.{free-of-none, none-of-free}
 
 -- what is said determines the answer
@@ -41,7 +42,7 @@ module _ (i : Input) (before : Lent) where
 
   -- none of the rows applies to an input that passes the tests and whose old answer is right
   none-of-right : None (testRows i before) → IsRight (i .first) (i .old) → None (updateRows i before)
-  none-of-right n r = none-append (testRows i before) (judgeRows (i .first) (i .old)) n (right-accepted (gameOf (i .first)) (markOf (i .old .winners)) (moveOf (i .old .moves)) r)
+  none-of-right n r = none-append (testRows i before) (judgeRows (i .first) (i .old)) n (verdicts.none-of-right (i .first) (i .old) r)
 
   refuses-alike : (x y : Lent) (k z l u : ℕ) → Undecided i before x k z → Undecided i before y l u → Alike x y (refused k z) (refused l u)
   refuses-alike x y k z l u r s =
@@ -67,10 +68,10 @@ module _ (i : Input) (before : Lent) where
     decided-alike x y a b d e =
         let free = free-of-none i before (d .none) in
         let formed = well-formed (i .second) bytes (free .second) in
-        let long = free .fit .1 .1 .0 ∙ free .size in
+        let long = free .fit .1 .1 .0 ∙ ap winnerCells (free .size) in
         record {
           said = ap success (d .value ∙ ap (λ (c : ℕ). c ∷ []) (count-unique (d .counted) (e .counted)) ∙ sym (e .value));
-          lines = solutions-lines (i .second) (x .answer) (y .answer) formed (d .written .winners-long ∙ long) (e .written .winners-long ∙ long) (d .written .solution) (e .written .solution);
+          lines = solutions-lines (i .second) (x .answer) (y .answer) formed (record { cells = d .written .winners-long ∙ long }) (record { cells = e .written .winners-long ∙ long }) (d .written .solution) (e .written .solution);
           kept-moves = λ v l k. d .kept v l k .move ∙ sym (e .kept v l k .move);
           work = zeroed-unique (d .written .zeroed) (e .written .zeroed);
           refused-same = λ k p h. let z : _≡_ {A = ℕ} 0 1 = cc in absurd (omega arith);

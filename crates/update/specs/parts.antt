@@ -1,3 +1,1 @@
-pub mod Marking
-pub mod Deciding
 pub mod Redoing

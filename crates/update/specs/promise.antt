@@ -1,2 +1,1 @@
-pub mod Amended
 pub mod Updating

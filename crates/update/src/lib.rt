@@ -1,26 +1,24 @@
 // The update: lines of a checked answer that no amendment reaches are kept, all others decided anew.
-use crate::deciding::decide;
-use crate::marking::find_reached;
 use crate::refuse::test_input;
+use amend::marking::find_reached;
+use anew::decide;
 use checker::Verdict;
 use checker::judge;
 use game::EDGES;
-use game::NONE;
 use game::VERTICES;
-use reach::cells::fill;
-use reach::lists::predecessors;
+use preds::INS;
+use preds::build::predecessors;
 use refusal::Refusal;
 use refusal::Tested;
+use storage::Winner;
 ghost use mathlib.Core.Path.{_≡_};
 ghost use Rattle.refusal.specs.promise.Row.{None};
 ghost use Rattle.refusal.specs.declared.Refusal.{Refusal};
-ghost use Rattle.game.specs.promise.Lent.{asked, lent, claim, claimed, buffers, given, left};
+ghost use Rattle.game.specs.promise.Lent.{asked, lent};
+ghost use Rattle.storage.specs.promise.Lent.{claim, claimed, buffers, given, left};
 ghost use Rattle.update.specs.promise.Updating.{Updates, updatedSaid, inputOf, testRows};
 ghost use Rattle.update.specs.parts.Redoing.{Redoable, RedoneTo};
 
-mod compare;
-mod deciding;
-mod marking;
 mod refuse;
 
 // The number of vertices that reach an amended one, or the first refusal that applies.
@@ -30,7 +28,6 @@ pub enum Updated {
 }
 
 // Finds what the amendment reaches, decides that anew, keeps the rest, and returns the number of the former.
-// Until they are decided the moves stand for no choice, so that the closure follows every edge.
 fn redo(
     owners: &[u8],
     priorities: &[u8],
@@ -40,22 +37,18 @@ fn redo(
     priorities2: &[u8],
     starts2: &[u16],
     targets2: &[u16],
-    old_winners: &[u8],
+    old_winners: &[Winner],
     old_moves: &[u16],
-    winners: &mut [u8],
+    ins: &[u16],
+    froms: &[u16],
+    winners: &mut [Winner],
     moves: &mut [u16],
     work: &mut [u16],
 ) -> usize
-    requires { ⌜ Redoable (inputOf (asked owners priorities starts targets) (asked owners2 priorities2 starts2 targets2) (claim «old_winners» «old_moves»)) (buffers winners moves work) ⌝ }
+    requires { ⌜ Redoable (inputOf (asked owners priorities starts targets) (asked owners2 priorities2 starts2 targets2) (claim «old_winners» «old_moves»)) (buffers winners moves work) (now ins) (now froms) ⌝ }
     ensures { λ r. ⌜ RedoneTo (inputOf (lent owners priorities starts targets) (lent owners2 priorities2 starts2 targets2) (claimed «old_winners» «old_moves»)) (given winners moves work) (left winners moves work) r ⌝ }
 {
-    let n = owners2.len();
-    let mut heads = [0u16; VERTICES];
-    let mut nexts = [0u16; EDGES];
-    let mut sources = [0u16; EDGES];
     let mut reached = [0u8; VERTICES];
-    predecessors(n, starts2, targets2, &mut heads, &mut nexts, &mut sources);
-    fill(moves, NONE);
     let count = find_reached(
         owners,
         priorities,
@@ -65,10 +58,8 @@ fn redo(
         priorities2,
         starts2,
         targets2,
-        &heads,
-        &nexts,
-        &sources,
-        moves,
+        ins,
+        froms,
         &mut reached,
         work,
     );
@@ -77,9 +68,8 @@ fn redo(
         priorities2,
         starts2,
         targets2,
-        &heads,
-        &nexts,
-        &sources,
+        ins,
+        froms,
         old_winners,
         old_moves,
         &reached,
@@ -100,7 +90,8 @@ fn as_refusal(verdict: Verdict) -> Updated
     Updated::Refused(r)
 }
 
-// The checker's verdict on the old answer comes first; a refusal ends the update.
+// The checker's verdict on the old answer comes first; a refusal ends the update. The two games' predecessor lists stand in one place,
+// one after the other.
 fn amend(
     owners: &[u8],
     priorities: &[u8],
@@ -110,15 +101,18 @@ fn amend(
     priorities2: &[u8],
     starts2: &[u16],
     targets2: &[u16],
-    old_winners: &[u8],
+    old_winners: &[Winner],
     old_moves: &[u16],
-    winners: &mut [u8],
+    winners: &mut [Winner],
     moves: &mut [u16],
     work: &mut [u16],
 ) -> Updated
     requires { ⌜ None (testRows (inputOf (asked owners priorities starts targets) (asked owners2 priorities2 starts2 targets2) (claim «old_winners» «old_moves»)) (buffers winners moves work)) ⌝ }
     ensures { λ r. ⌜ Updates (inputOf (lent owners priorities starts targets) (lent owners2 priorities2 starts2 targets2) (claimed «old_winners» «old_moves»)) (given winners moves work) (left winners moves work) (updatedSaid r) ⌝ }
 {
+    let mut ins = [0u16; INS];
+    let mut froms = [0u16; EDGES];
+    predecessors(owners, priorities, starts, targets, &mut ins, &mut froms);
     let verdict = judge(
         owners,
         priorities,
@@ -126,11 +120,21 @@ fn amend(
         targets,
         old_winners,
         old_moves,
+        &ins,
+        &froms,
         work,
     );
     let Verdict::Accepted = verdict else {
         return as_refusal(verdict);
     };
+    predecessors(
+        owners2,
+        priorities2,
+        starts2,
+        targets2,
+        &mut ins,
+        &mut froms,
+    );
     let count = redo(
         owners,
         priorities,
@@ -142,6 +146,8 @@ fn amend(
         targets2,
         old_winners,
         old_moves,
+        &ins,
+        &froms,
         winners,
         moves,
         work,
@@ -159,9 +165,9 @@ pub fn update(
     priorities2: &[u8],
     starts2: &[u16],
     targets2: &[u16],
-    old_winners: &[u8],
+    old_winners: &[Winner],
     old_moves: &[u16],
-    winners: &mut [u8],
+    winners: &mut [Winner],
     moves: &mut [u16],
     work: &mut [u16],
 ) -> Updated

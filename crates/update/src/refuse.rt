@@ -1,17 +1,20 @@
 // The update's tests before the checker's: both games' tables, their sizes, the lengths of the five lent lists.
 use game::buffers::compare;
-use game::buffers::lengths;
 use game::tables::test_tables;
 use refusal::Found;
 use refusal::Kind;
 use refusal::Refusal;
 use refusal::Tested;
 use refusal::or;
+use storage::Winner;
+use storage::answer::cells;
+use storage::lent::lengths;
 ghost use mathlib.Core.Path.{_≡_};
 ghost use Rattle.refusal.specs.promise.Row.{Gives};
 ghost use Rattle.refusal.specs.parts.Found.{Finds, testedSaid};
 ghost use Rattle.refusal.specs.declared.TableFault.{TableFault};
-ghost use Rattle.game.specs.promise.Lent.{lent, claimed, given};
+ghost use Rattle.game.specs.promise.Lent.{lent};
+ghost use Rattle.storage.specs.promise.Lent.{claimed, given};
 ghost use Rattle.update.specs.promise.Updating.{Fault9, inputOf, testRows};
 
 // The same fault in the second game.
@@ -44,9 +47,9 @@ pub fn test_input(
     priorities2: &[u8],
     starts2: &[u16],
     targets2: &[u16],
-    old_winners: &[u8],
+    old_winners: &[Winner],
     old_moves: &[u16],
-    winners: &[u8],
+    winners: &[Winner],
     moves: &[u16],
     work: &[u16],
 ) -> Tested
@@ -70,5 +73,9 @@ pub fn test_input(
     let nine = or(Tested::Passed, sizes, Kind::Vertices);
     let lent = lengths(n, winners.len(), moves.len(), work.len());
     let moved = compare(lent, old_moves.len(), n);
-    or(nine, compare(moved, old_winners.len(), n), Kind::Buffer)
+    or(
+        nine,
+        compare(moved, old_winners.len(), cells(n)),
+        Kind::Buffer,
+    )
 }

@@ -1,16 +1,16 @@
 -- An answer is accepted exactly if it is right.
-use Prim.Native.Nat.{ℕ}
+use Prim.Native.Nat.{ℕ, _<_}
 use mathlib.Core.Path.{_≡_, refl, sym, ap, _∙_}
 use mathlib.Core.Logic.{_≢_, _↔_, Dec·not-not}
 use mathlib.Core.List.{List, _∷_}
 use native.Mathlib.Decide.{ℕ-discrete}
-use Rattle.player.specs.promise.Player.{parityOf}
+use Rattle.player.specs.promise.Player.{IsPlayer, parityOf}
 use Rattle.refusal.specs.promise.Row.{NoPlace}
 use Rattle.game.specs.promise.Game.{Game}
 use Rattle.winning.proofs.Walks.{follow}
 use Rattle.winning.specs.promise.Cycle.{Cycle, highest}
 use Rattle.winning.specs.promise.Wins.{By}
-use Rattle.winning.specs.promise.Faults.{Recorded, Fault11, Fault12, own, other, Fault13, Fault14, Accepted}
+use Rattle.winning.specs.promise.Faults.{Recorded, Fault12, own, other, Fault13, Fault14, Accepted}
 use Rattle.winning.specs.promise.Answer.{Right}
 use Rattle.winning.proofs.Cycles.{map-cycle, cycle-step, top-of}
 use Rattle.winning.proofs.Backed.{Backed, backed, recorded-keeps, by-recorded, recorded-by}
@@ -25,16 +25,16 @@ module _ (g : Game) (mark move : ℕ → ℕ) where
 
   -- 14 by its place and 14 by its cycle are the same
   pub cycle-fault :
-      NoPlace (Fault11 g mark move) → NoPlace (Fault12 g mark move) → NoPlace (Fault13 g mark move) →
+      ((v : ℕ) → v < g .n → IsPlayer (mark v)) → NoPlace (Fault12 g mark move) → NoPlace (Fault13 g mark move) →
       ((x : ℕ) × Fault14 g mark move x) ↔
       ((u : ℕ) × (l : List ℕ) × Cycle (Recorded g mark move) (u ∷ l) × (parityOf (highest g (u ∷ l)) ≢ mark u))
-  cycle-fault no11 no12 no13 = (
+  cycle-fault players no12 no13 = (
     λ f. (f .0, f .1 .rest, f .1 .cycle, λ e. f .1 .lost (ap parityOf (sym (f .1 .own-highest)) ∙ e)),
-    λ c. wrong-top (backed g mark move no11 no12 no13) (c .0) (c .1) (c .2) (c .3),
+    λ c. wrong-top (backed g mark move players no12 no13) (c .0) (c .1) (c .2) (c .3),
   )
 
   pub accepted-backed : Accepted g mark move → Backed g mark move
-  accepted-backed a = backed g mark move (a .0) (a .1 .0) (a .1 .1 .0)
+  accepted-backed a = backed g mark move (a .players) (a .none .0) (a .none .1 .0)
 
   pub accepted-right : Accepted g mark move → Right g mark move
   accepted-right a =
@@ -55,10 +55,10 @@ module _ (g : Game) (mark move : ℕ → ℕ) where
       wins p v l m c =
           let r = map-cycle (λ x. mark x ≡ p) (λ x y e s. (by-recorded g mark move e s, stays p x y e s)) v l m c in
           Dec·not-not (ℕ-discrete (parityOf (highest g (v ∷ l))) p) .0
-          (λ h. let f = wrong-top b v l r (λ e. h (e ∙ m)) in a .1 .1 .1 .0 (f .0) (f .1))
+          (λ h. let f = wrong-top b v l r (λ e. h (e ∙ m)) in a .none .1 .1 .0 (f .0) (f .1))
 
   pub right-accepted : Right g mark move → Accepted g mark move
-  right-accepted r = (λ x f. f .strange (r .form .winner x (f .vertex)), (move-fault, (escape, (cycle, tt))))
+  right-accepted r = record { players = r .form .winner; none = (move-fault, (escape, (cycle, tt))) }
     where
       kept : (v w : ℕ) → Recorded g mark move v w → mark w ≡ mark v
       kept v w s = r .stays (mark v) v w (r .form .winner v (s .edge .from)) refl (recorded-by g mark move refl s)

@@ -1,14 +1,14 @@
--- What an answer has where none of 11 to 13 applies, said positively, and that marks are constant along the recorded moves.
+-- What an answer has whose marks are players and to which neither 12 nor 13 applies, said positively, and that marks are constant along the recorded moves.
 use Prim.Native.Nat.{ℕ, _<_}
 use mathlib.Core.Path.{_≡_, sym, subst, _∙_}
 use mathlib.Core.Logic.{_≢_, Dec·and, Dec·not-not}
-use native.Mathlib.Decide.{ℕ-discrete, decLt}
+use native.Mathlib.Decide.{ℕ-discrete}
 use Rattle.player.specs.promise.Player.{IsPlayer}
 use Rattle.refusal.specs.promise.Row.{NoPlace}
 use Rattle.game.specs.promise.Game.{Game, Edge}
 use Rattle.winning.specs.promise.Wins.{By}
 use Rattle.winning.specs.promise.Answer.{noMove}
-use Rattle.winning.specs.promise.Faults.{Recorded, Fault11, Fault12, own, other, Fault13}
+use Rattle.winning.specs.promise.Faults.{Recorded, Fault12, own, other, Fault13}
 use Rattle.winning.proofs.Edges.{decide-edge}
 
 module _ (g : Game) (mark move : ℕ → ℕ) where
@@ -19,10 +19,10 @@ module _ (g : Game) (mark move : ℕ → ℕ) where
     pub trapped : (v w : ℕ) → g .owner v ≢ mark v → Edge g v w → mark w ≡ mark v
 
   -- each statement is decided, so what no fault contradicts holds
-  pub backed : NoPlace (Fault11 g mark move) → NoPlace (Fault12 g mark move) → NoPlace (Fault13 g mark move) → Backed
-  backed no11 no12 no13 =
+  pub backed : ((v : ℕ) → v < g .n → IsPlayer (mark v)) → NoPlace (Fault12 g mark move) → NoPlace (Fault13 g mark move) → Backed
+  backed players no12 no13 =
       record {
-        winner = λ v l. Dec·not-not (decLt (mark v) 2) .0 (λ h. no11 v (record { vertex = l; strange = h }));
+        winner = players;
         owned = λ v l e. Dec·not-not (Dec·and (decide-edge g v (move v)) (ℕ-discrete (mark (move v)) (mark v))) .0 (λ h. no12 v (own l e h));
         elsewhere = λ v l e. Dec·not-not (ℕ-discrete (move v) noMove) .0 (λ h. no12 v (other l e h));
         trapped = λ v w e s. Dec·not-not (ℕ-discrete (mark w) (mark v)) .0 (λ h. no13 v (record { loser = e; successor = w; edge = s; differs = h }));

@@ -12,11 +12,8 @@ use Rattle.game.specs.promise.Game.{Game, Sound, Moving}
 use Rattle.winning.proofs.Walks.{map-walk}
 use Rattle.winning.specs.promise.Cycle.{highest}
 use Rattle.winning.specs.promise.Wins.{By, Wins}
-use Rattle.winning.specs.promise.Faults.{Accepted}
 use Rattle.winning.proofs.Cycles.{map-cycle}
 use Rattle.winning.proofs.Lasso.{Lasso, lasso}
-use Rattle.winning.proofs.Accepted.{accepted-backed}
-use Rattle.winning.proofs.Won.{accepted-won}
 
 -- a step of both plays
 record Both (g : Game) (p : ℕ) (σ τ : ℕ → ℕ) (v w : ℕ) : Type 0 where

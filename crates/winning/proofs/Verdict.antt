@@ -1,15 +1,17 @@
 -- The verdict that computes is what the rows 11 to 14 give.
 use Prim.Native.Nat.{ℕ, _<_}
 use mathlib.Core.Path.{_≡_, refl}
-use mathlib.Core.Logic.{_⊎_, inl, inr, _≢_}
+use mathlib.Core.Logic.{_⊎_, inl, inr, _≢_, _↔_}
+use mathlib.Core.List.{_∷_}
 use native.Mathlib.Nat.{le-refl}
 use Rattle.player.specs.promise.Player.{IsPlayer, parityOf}
+use Rattle.refusal.specs.promise.Row as rows
 use Rattle.refusal.specs.promise.Row.{Gives}
 use Rattle.refusal.specs.parts.Found.{Finds}
 use Rattle.game.specs.promise.Game.{Game, Edge}
 use Rattle.winning.specs.parts.Low.{Low}
 use Rattle.winning.specs.promise.Answer.{noMove}
-use Rattle.winning.specs.promise.Faults.{Recorded, Fault11, Fault12, own, other, Fault13, Fault14, answerRows}
+use Rattle.winning.specs.promise.Faults.{Recorded, Fault12, own, other, Fault13, Fault14, answerRows}
 use Rattle.winning.specs.parts.Verdict.{lowest, isOwn, isRecorded, isRecordedBelow, test11, test12, test13, test14, answerTests, verdictOf}
 use Rattle.winning.proofs.Reflect.{Tests, tests-map, tests-not, tests-and, tests-or, tests-implies, tests-eq, tests-le, tests-lt}
 use Rattle.winning.proofs.Edges.{tests-edge}
@@ -51,12 +53,13 @@ module _ (g : Game) (mark move : ℕ → ℕ) where
   abbrev Wrong14 : ℕ → Type 0
   Wrong14 x = (parityOf (g .priority x) ≢ mark x) × Via (Low g (Recorded g mark move) (g .priority x)) (g .n) x x
 
-  finds11 : Finds (Fault11 g mark move) (lowest (test11 g mark move) (g .n))
-  finds11 =
-      finds-within Wrong11 (Fault11 g mark move) (test11 g mark move) (g .n)
+  -- row 11 is about how marks are stored: F says at which vertices a mark is no player
+  finds11 : (F : ℕ → Type 0) → ((x : ℕ) → F x ↔ ((x < g .n) × Wrong11 x)) → Finds F (lowest (test11 g mark move) (g .n))
+  finds11 F is =
+      finds-within Wrong11 F (test11 g mark move) (g .n)
       (λ x. tests-not (tests-lt (mark x) 2))
-      (λ x l h. record { vertex = l; strange = h })
-      (λ x f. record { below = f .vertex; has = f .strange })
+      (λ x l h. is x .1 (l, h))
+      (λ x f. record { below = is x .0 f .0; has = is x .0 f .1 })
 
   finds12 : Finds (Fault12 g mark move) (lowest (test12 g mark move) (g .n))
   finds12 = finds-within Wrong12 (Fault12 g mark move) (test12 g mark move) (g .n) tests to from
@@ -100,7 +103,7 @@ module _ (g : Game) (mark move : ℕ → ℕ) where
           let s : Low g (Recorded g mark move) (g .priority x) x (r .0) = record { taken = r .1; low = le-refl (g .priority x) } in
           record { below = r .1 .edge .from; has = (f .lost, step-via (λ y z t. t .taken .edge .from) s (r .2)) }
 
-  pub verdict-gives : Gives (answerRows g mark move) (verdictOf g mark move)
-  verdict-gives =
-      let m : Matched (g .n) (answerRows g mark move) (answerTests g mark move) = row refl finds11 (row refl finds12 (row refl finds13 (row refl finds14 none))) in
+  pub verdict-gives : (F : ℕ → Type 0) → ((x : ℕ) → F x ↔ ((x < g .n) × Wrong11 x)) → Gives (rows.row 11 F ∷ answerRows g mark move) (verdictOf g mark move)
+  verdict-gives F is =
+      let m : Matched (g .n) (rows.row 11 F ∷ answerRows g mark move) (answerTests g mark move) = row refl (finds11 F is) (row refl finds12 (row refl finds13 (row refl finds14 none))) in
       said-gives m

@@ -9,7 +9,7 @@ use Rattle.game.specs.promise.Tables.{Tables}
 use Rattle.housefile.specs.declared.Header.{Header}
 use Rattle.housefile.specs.declared.Read.{Read}
 use Rattle.housefile.specs.declared.Read.the-variants.{Game}
-use Rattle.housefile.specs.promise.Filed.{verticesFiled, edgesFiled}
+use Rattle.blocks.specs.promise.Filed.{verticesFiled, edgesFiled}
 use Rattle.housefile.specs.promise.Reading.{readSaid, Reads}
 use Rattle.zoetelkorf.specs.promise.Calls.{numberSaid, valueSaid, Told}
 

@@ -5,8 +5,8 @@ use mathlib.Core.List.{List}
 use lib.ListN.{getD}
 use Rattle.refusal.specs.promise.Row.{Said}
 use Rattle.game.specs.promise.Tables.{Tables}
-use Rattle.game.specs.promise.Answer.{Answer}
-use Rattle.game.specs.promise.Lent.{Lent}
+use Rattle.storage.specs.promise.Answer.{Answer}
+use Rattle.storage.specs.promise.Lent.{Lent}
 use Rattle.checker.proofs.Unique.{checks-unique}
 use Rattle.solver.proofs.Unique.{Same, solves-unique}
 use Rattle.update.specs.promise.Updating.{Input}

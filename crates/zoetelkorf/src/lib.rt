@@ -7,9 +7,11 @@ use refusal::Refusal;
 use refusal::number;
 use solver::Solved;
 use solver::solve;
+use storage::Winner;
 use update::Updated;
 use update::update;
-ghost use Rattle.game.specs.promise.Lent.{lent, written, claimed, given, left};
+ghost use Rattle.game.specs.promise.Lent.{lent, written};
+ghost use Rattle.storage.specs.promise.Lent.{claimed, given, left};
 ghost use Rattle.update.specs.promise.Updating.{inputOf};
 ghost use Rattle.zoetelkorf.specs.promise.Calls.{ChecksBy, SolvesBy, UpdatesBy, ReadsBy};
 ghost use Rattle.zoetelkorf.specs.parts.Handing.{Gave};
@@ -30,7 +32,7 @@ pub extern "C" fn zoetelkorf_check(
     priorities: &[u8],
     starts: &[u16],
     targets: &[u16],
-    winners: &[u8],
+    winners: &[Winner],
     moves: &[u16],
     work: &mut [u16],
     value: &mut u64,
@@ -51,7 +53,7 @@ pub extern "C" fn zoetelkorf_solve(
     priorities: &[u8],
     starts: &[u16],
     targets: &[u16],
-    winners: &mut [u8],
+    winners: &mut [Winner],
     moves: &mut [u16],
     work: &mut [u16],
     value: &mut u64,
@@ -76,9 +78,9 @@ pub extern "C" fn zoetelkorf_update(
     priorities2: &[u8],
     starts2: &[u16],
     targets2: &[u16],
-    old_winners: &[u8],
+    old_winners: &[Winner],
     old_moves: &[u16],
-    winners: &mut [u8],
+    winners: &mut [Winner],
     moves: &mut [u16],
     work: &mut [u16],
     value: &mut u64,

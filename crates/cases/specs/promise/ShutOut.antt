@@ -5,7 +5,7 @@ use mathlib.Core.Logic.{_≢_}
 use mathlib.Core.List.{List, [], _∷_}
 use lib.ListN.{length, getD}
 use Rattle.refusal.specs.promise.Row.{Said, success, refused}
-use Rattle.game.specs.promise.Lent.{Lent}
+use Rattle.storage.specs.promise.Lent.{Lent}
 use Rattle.winning.specs.promise.Answer.{noMove}
 use Rattle.cases.specs.promise.Games.{A, B, game8, game9, A2, chain, chain1, free, free1}
 use Rattle.cases.specs.promise.Table.{line, answerA, Fits, outcome, Solving, Checking, Updating, zeros}

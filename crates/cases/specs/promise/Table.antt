@@ -7,8 +7,9 @@ use lib.Dec.{leb}
 use lib.ListN.{length, replicate}
 use Rattle.refusal.specs.promise.Row.{Said, success, refused}
 use Rattle.game.specs.promise.Tables.{Tables, vertices}
-use Rattle.game.specs.promise.Answer.{Answer}
-use Rattle.game.specs.promise.Lent.{Lent, Fit, lentSizes}
+use Rattle.storage.specs.promise.Answer.{Answer}
+use Rattle.game.specs.promise.Lent.{Fit}
+use Rattle.storage.specs.promise.Lent.{Lent, lentSizes}
 use Rattle.winning.specs.promise.Answer.{noMove}
 use Rattle.checker.specs.promise.Checking.{Checks}
 use Rattle.solver.specs.promise.Solving.{Solves}

@@ -1,15 +1,14 @@
--- `checker::check` meets its contract: 1 to 8, and then what `judge` says (Verdicts).
+-- `checker::check` meets its contract: 1 to 8, and then what is judged (Verdicts).
 -- Assumes nothing.
-use mathlib.Core.Path.{_∙_}
 use native.Mathlib.Omega.{arith}
 use denote.Ref.{now}
 use Rattle.refusal.specs.promise.Row.{None}
 use Rattle.refusal.proofs.Rows.{Given, passed}
 use Rattle.game.specs.promise.Tables.{Tables}
-use Rattle.game.specs.promise.Answer.{Answer}
-use Rattle.game.specs.promise.Lent.{asked, claim}
-use Rattle.game.proofs.Lent.{lent-formed, lent-fit}
-use Rattle.game.proofs.Stores.{room-is}
+use Rattle.game.specs.promise.Lent.{asked}
+use Rattle.storage.specs.promise.Answer.{Answer}
+use Rattle.storage.specs.promise.Lent.{claim}
+use Rattle.storage.proofs.Passed.{lent-formed, lent-fit}
 use Rattle.checker.specs.promise.Checking.{beforeRows}
 use Rattle.checker.proofs.Verdicts.{checked-before, checked-judged}
 use borrow.Author.Needs.{needs}
@@ -17,16 +16,19 @@ use Rattle.checker.proofs.check.Statement.{statement}
 use Rattle.checker.proofs.check.Tie as tie
 
 -- what is lent, and what was said of 1 to 8
+abbrev start : tie.After-test-lent → tie.Start
+start c = c .before .before .before .before .before .before .before .before
+
 abbrev tables : tie.After-test-lent → Tables
-tables c = let a = c .before .before .before .before .before .before .before .before .args in asked (a .owners) (a .priorities) (a .starts) (a .targets)
+tables c = let a = start c .args in asked (a .owners) (a .priorities) (a .starts) (a .targets)
 
 abbrev answer : tie.After-test-lent → Answer
-answer c = let a = c .before .before .before .before .before .before .before .before .args in claim (a .winners) (a .moves)
+answer c = let a = start c .args in claim (a .winners) (a .moves)
 
-said : (c : tie.After-test-lent) → Given (beforeRows (tables c) (answer c) (now (c .before .before .before .before .before .before .before .before .args .work))) (c .test-lent .result)
+said : (c : tie.After-test-lent) → Given (beforeRows (tables c) (answer c) (now (start c .args .work))) (c .test-lent .result)
 said c = record { gives = c .test-lent .ensures }
 
-none : (c : tie.After-enum-told) → None (beforeRows (tables (c .before .before)) (answer (c .before .before)) (now (c .before .before .before .before .before .before .before .before .before .before .args .work)))
+none : (c : tie.After-enum-told) → let t = c .before .before in None (beforeRows (tables t) (answer t) (now (start t .args .work)))
 none c = passed (c .enum-told .given .1) (said (c .before .before))
 
 test-lent-requires : tie.Need-test-lent-requires
@@ -41,14 +43,15 @@ returns c = checked-before _ _ _ (c .before .tested .given .1) (said (c .before 
 enum-told : tie.Need-enum-told
 enum-told c = search needs
 
-judge-requires : tie.Need-judge-requires
-judge-requires c κs = let n = none (c .before) in
+judge-alone-requires : tie.Need-judge-alone-requires
+judge-alone-requires c κs =
+    let n = none (c .before) in
     let f = lent-fit _ _ _ _ n in
     record {
       answered =
           record {
             well-formed = lent-formed _ _ _ _ (λ v. omega (arith, c .before .before .before .before .before .before .before .before .before .shared-slice-known2 .given v)) n;
-            winners-long = room-is _ ∙ f .0;
+            stored = record { cells = f .0 };
             moves-long = f .1 .0;
           };
       work-long = f .1 .1 .0;
@@ -58,7 +61,7 @@ same-length : tie.Need-same-length
 same-length c = search needs
 
 returns-2 : tie.Need-returns-2
-returns-2 c = checked-judged _ _ _ _ (c .before .before .judge .result) (none (c .before .before .before .before)) (c .before .before .judge .ensures)
+returns-2 c = let j = c .before .before in checked-judged _ _ _ _ (j .judge-alone .result) (none (c .before .before .before .before)) (j .judge-alone .ensures)
 
 pub check-spec : {M : Type 1} → statement M
 check-spec =
@@ -68,6 +71,6 @@ check-spec =
     enum-known-tested
     returns
     enum-told
-    judge-requires
+    judge-alone-requires
     same-length
     returns-2)

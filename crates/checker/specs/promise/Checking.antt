@@ -1,13 +1,14 @@
 -- What the checker promises: its verdict, and what the work space holds afterwards. (docs/RULES.md, Entry points)
 use Prim.Native.Nat.{ℕ}
 use mathlib.Core.Path.{_≡_}
-use mathlib.Core.List.{List, [], _++_}
+use mathlib.Core.List.{List, [], _∷_, _++_}
 use lib.ListN.{length}
-use Rattle.refusal.specs.promise.Row.{Row, Said, success, refused, None, First}
+use Rattle.refusal.specs.promise.Row.{Row, row, Said, success, refused, None, First}
 use Rattle.refusal.specs.promise.Number.{saidOf}
-use Rattle.game.specs.promise.Tables.{Tables, gameOf}
-use Rattle.game.specs.promise.Answer.{Answer, markOf, moveOf}
-use Rattle.game.specs.promise.Lent.{lentRows, Judging, Zeroed, Leaves}
+use Rattle.game.specs.promise.Tables.{Tables, vertices, gameOf}
+use Rattle.storage.specs.promise.Answer.{Answer, markOf, moveOf}
+use Rattle.storage.specs.promise.Faults.{Fault11}
+use Rattle.storage.specs.promise.Lent.{lentRows, Judging, Zeroed, Leaves}
 use Rattle.winning.specs.promise.Answer.{Right}
 use Rattle.winning.specs.promise.Faults.{answerRows}
 use Rattle.checker.specs.declared.Verdict.{Verdict}
@@ -24,7 +25,7 @@ IsRight t a = Right (gameOf t) (markOf (a .winners)) (moveOf (a .moves))
 
 -- 11 to 14 on the answer
 abbrev pub judgeRows : Tables → Answer → List Row
-judgeRows t a = answerRows (gameOf t) (markOf (a .winners)) (moveOf (a .moves))
+judgeRows t a = row 11 (Fault11 (vertices t) (a .winners)) ∷ answerRows (gameOf t) (markOf (a .winners)) (moveOf (a .moves))
 
 -- 1 to 8
 abbrev pub beforeRows : Tables → Answer → (work : List ℕ) → List Row

@@ -1,19 +1,10 @@
--- What is lent besides the tables, row 8 on its lengths, and how the clauses of a contract speak of it. (docs/RULES.md, Memory)
-use Prim.Native.Nat.{ℕ, _*_, _<_, _≤_}
+-- Row 8 on the lengths of what is lent, and how the clauses of a contract speak of lent tables. (docs/RULES.md, Memory)
+use Prim.Native.Nat.{ℕ}
 use mathlib.Core.Path.{_≡_}
-use mathlib.Core.List.{List, [], _∷_, _++_}
-use lib.ListN.{length, getD}
+use mathlib.Core.List.{List, [], _∷_}
 use denote.Ref.{RefT, now}
 use denote.Triple.Both.{Both}
-use Rattle.refusal.specs.promise.Row.{Row, row}
-use Rattle.game.specs.promise.Tables.{Tables, tablesOf, vertices}
-use Rattle.game.specs.promise.Faults.{tableRows}
-use Rattle.game.specs.promise.Answer.{Answer}
-
--- what a solver writes: an answer, with the work space beside it
-pub record Lent : Type 0 where
-  pub answer : Answer
-  pub work : List ℕ
+use Rattle.game.specs.promise.Tables.{Tables, tablesOf}
 
 -- how long a lent list is, and how long it should be
 pub record Sized : Type 0 where
@@ -34,29 +25,6 @@ pub record Fault8 (l : List Sized) (x : ℕ) : Type 0 where
 abbrev pub sized : (long due : ℕ) → Sized
 sized long due = record { long = long; due = due }
 
--- n winners, n moves, 4 × n cells of work space
-abbrev pub lentSizes : (n winners moves work : ℕ) → List Sized
-lentSizes n winners moves work = sized winners n ∷ sized moves n ∷ sized work (4 * n) ∷ []
-
--- 1 to 7 on the tables, then 8 on the lengths of winners, moves and work space
-abbrev pub lentRows : Tables → (winners moves work : ℕ) → List Row
-lentRows t winners moves work = tableRows t ++ (row 8 (Fault8 (lentSizes (vertices t) winners moves work)) ∷ [])
-
--- the work space is all zero, and as long as before
-pub record Zeroed (before after : List ℕ) : Type 0 where
-  pub long : length after ≡ length before
-  pub zero : (i : ℕ) → i < length after → getD after i 0 ≡ 0
-
--- 11 to 14 judge an answer
-pub record Judging (number : ℕ) : Type 0 where
-  pub least : 11 ≤ number
-  pub most : number ≤ 14
-
--- what a refusal leaves in the work space: zeros if it judges an answer, else what stood there
-pub record Leaves (number : ℕ) (before after : List ℕ) : Type 0 where
-  pub zeroed : Judging number → Zeroed before after
-  pub same : ¬ Judging number → after ≡ before
-
 -- tables that a `requires` speaks of
 abbrev pub asked : (owners priorities starts targets : RefT (List ℕ)) → Tables
 asked owners priorities starts targets = tablesOf (now owners) (now priorities) (now starts) (now targets)
@@ -68,20 +36,3 @@ lent owners priorities starts targets = asked (owners .entry) (priorities .entry
 -- tables that a call has written: as they are at exit
 abbrev pub written : {A B C D : Type 0} → Both A (RefT (List ℕ)) → Both B (RefT (List ℕ)) → Both C (RefT (List ℕ)) → Both D (RefT (List ℕ)) → Tables
 written owners priorities starts targets = asked (owners .exit) (priorities .exit) (starts .exit) (targets .exit)
-
--- an answer that a `requires`, or an `ensures`, speaks of
-abbrev pub claim : (winners moves : RefT (List ℕ)) → Answer
-claim winners moves = record { winners = now winners; moves = now moves }
-
-abbrev pub claimed : {A B : Type 0} → Both (RefT (List ℕ)) A → Both (RefT (List ℕ)) B → Answer
-claimed winners moves = claim (winners .entry) (moves .entry)
-
--- what is lent to a solver: as a `requires` speaks of it, at entry, and at exit
-abbrev pub buffers : (winners moves work : RefT (List ℕ)) → Lent
-buffers winners moves work = record { answer = claim winners moves; work = now work }
-
-abbrev pub given : {A B C : Type 0} → Both (RefT (List ℕ)) A → Both (RefT (List ℕ)) B → Both (RefT (List ℕ)) C → Lent
-given winners moves work = buffers (winners .entry) (moves .entry) (work .entry)
-
-abbrev pub left : {A B C : Type 0} → Both A (RefT (List ℕ)) → Both B (RefT (List ℕ)) → Both C (RefT (List ℕ)) → Lent
-left winners moves work = buffers (winners .exit) (moves .exit) (work .exit)

@@ -2,31 +2,19 @@
 use Prim.Native.Nat.{ℕ}
 use mathlib.Core.Path.{_≡_}
 use mathlib.Core.List.{List, [], _∷_}
-use lib.ListN.{length, getD}
 use Rattle.refusal.specs.promise.Row.{Said, success, refused, None, First}
 use Rattle.refusal.specs.promise.Number.{saidOf}
 use Rattle.game.specs.promise.Tables.{Tables}
 use Rattle.housefile.specs.declared.Read.{Read}
 use Rattle.housefile.specs.declared.Read.the-variants.{Game, Refused}
-use Rattle.housefile.specs.promise.Filed.{verticesFiled, edgesFiled, tablesFiled}
+use Rattle.blocks.specs.promise.Filed.{verticesFiled, edgesFiled, tablesFiled}
+use Rattle.decoding.specs.promise.Holding.{Holding}
 use Rattle.housefile.specs.promise.Faults.{fileRows}
 
 -- in numbers: n and the number of edges, or the refusal
 abbrev pub readSaid : Read → Said
 readSaid (Game h) = success (h .vertices ∷ h .edges ∷ [])
 readSaid (Refused r) = saidOf r
-
--- a table of this size holds the list, and zeros past it
-pub record Padded (size : ℕ) (list table : List ℕ) : Type 0 where
-  pub long : length table ≡ size
-  pub same : (i : ℕ) → getD table i 0 ≡ getD list i 0
-
--- tables of the fixed sizes hold these
-pub record Holding (t table : Tables) : Type 0 where
-  pub owners : Padded 2048 (t .owners) (table .owners)
-  pub priorities : Padded 2048 (t .priorities) (table .priorities)
-  pub starts : Padded 2049 (t .starts) (table .starts)
-  pub targets : Padded 16384 (t .targets) (table .targets)
 
 module _ (file : List ℕ) (before after : Tables) where
   -- success: no row applies, and the tables hold those of the file's game

@@ -1,34 +1,32 @@
 -- `levels::by_priority` meets its contract. The invariant, `Levelling`: the vertices below v have their priorities as levels.
 -- Assumes nothing.
+use borrow.Author.Needs.{needs}
 use Prim.Native.Nat.{_-_}
+use mathlib.Core.Path.{_≡_, refl}
 use lib.ListN.{length}
 use native.Mathlib.Omega.{arith}
+use Rattle.space.specs.parts.Desk.{deskOf}
 use Rattle.levels.proofs.Floors.{Levelling, levelling-none, levelling-more, levelling-all}
-use borrow.Author.Needs.{needs}
 use Rattle.levels.proofs.by_priority.Statement.{statement}
 use Rattle.levels.proofs.by_priority.Tie as tie
 
 abbrev Inv-loop : tie.InvT-loop
-Inv-loop priorities levels₀ v₀ levels v = Levelling priorities levels₀ levels v
+Inv-loop priorities desk₀ v₀ desk v = (length desk ≡ length desk₀) × Levelling priorities (deskOf desk₀) (deskOf desk) v
 
 abbrev μ-loop : tie.MeasureT-loop
-μ-loop priorities levels₀ v₀ levels v = length priorities - v
-
--- the way back from a turn to the start
-abbrev start : tie.In-loop Inv-loop μ-loop → tie.Start Inv-loop μ-loop
-start c = c .before .before .before .before
+μ-loop priorities desk₀ v₀ desk v = length priorities - v
 
 loop-holds : tie.Need-loop-holds Inv-loop μ-loop
-loop-holds c = levelling-none
+loop-holds c = (refl, levelling-none (c .before .before .pre .laid))
 
 shared-slice-read-set-level : tie.Need-shared-slice-read-set-level Inv-loop μ-loop
 shared-slice-read-set-level c = search needs
 
 cast-set-level : tie.Need-cast-set-level Inv-loop μ-loop
-cast-set-level c = omega (arith, c .shared-slice-known2 .given (c .before .before .before .loop .v))
+cast-set-level c = omega (arith, c .shared-slice-known2 .given (c .before .before .loop .v))
 
 set-level-requires : tie.Need-set-level-requires Inv-loop μ-loop
-set-level-requires c κs = let i = c .before .before in omega (arith, i .loop-test .taken, i .before .loop .inv .long, start i .pre .long)
+set-level-requires c κs = (c .before .before .before .loop .inv .1 .only .laid, omega (arith, c .before .before .loop-test .taken, c .before .before .before .before .before .before .pre .small))
 
 add-v : tie.Need-add-v Inv-loop μ-loop
 add-v c = search needs
@@ -37,13 +35,13 @@ loop-less : tie.Need-loop-less Inv-loop μ-loop
 loop-less c = search needs
 
 loop-again : tie.Need-loop-again Inv-loop μ-loop
-loop-again c = let s = c .before .before in levelling-more (s .before .before .before .before .loop .inv) (s .set-level .ensures)
+loop-again c = (search needs, levelling-more (c .before .before .before .before .before .before .loop .inv .1) refl (omega (arith, c .before .before .before .before .before .loop-test .taken, c .before .before .before .before .before .before .before .before .before .pre .small)) (c .before .before .set-level .ensures))
 
 same-length : tie.Need-same-length Inv-loop μ-loop
-same-length c = c .before .loop .inv .long
+same-length c = search needs
 
 returns : tie.Need-returns Inv-loop μ-loop
-returns c = levelling-all (c .before .loop .inv) (c .loop-test .left)
+returns c = levelling-all (c .before .loop .inv .1) (c .loop-test .left)
 
 pub by-priority-spec : {M : Type 1} → statement M
 by-priority-spec =

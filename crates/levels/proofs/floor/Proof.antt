@@ -1,44 +1,30 @@
 -- `levels::floor` meets its contract: a settled vertex and an open one (Floors).
 -- Assumes nothing.
 use native.Mathlib.Omega.{arith}
-use Rattle.levels.proofs.Floors.{floor-settled, floor-open}
+use Rattle.levels.proofs.Floors.{seen-cell, floor-settled, floor-open}
 use borrow.Author.Needs.{needs}
 use Rattle.levels.proofs.floor.Statement.{statement}
 use Rattle.levels.proofs.floor.Tie as tie
 
-mul-if1 : tie.Need-mul-if1
-mul-if1 c = search needs
+flag-requires : tie.Need-flag-requires
+flag-requires c κs = seen-cell (c .before .before .before .pre)
 
-shared-slice-read-if1 : tie.Need-shared-slice-read-if1
-shared-slice-read-if1 c = search needs
+level-requires : tie.Need-level-requires
+level-requires c κs = (c .before .before .before .before .before .pre .laid, omega (arith, c .before .before .before .before .before .pre .vertex, c .before .before .before .before .before .pre .small))
 
-mul-result : tie.Need-mul-result
-mul-result c = search needs
+returns : tie.Need-returns
+returns c = floor-settled (c .before .before .flag .ensures) (c .before .if1 .taken) (c .level .ensures)
 
 shared-slice-read-result : tie.Need-shared-slice-read-result
 shared-slice-read-result c = search needs
 
-returns : tie.Need-returns
-returns c = floor-settled (c .before .before .before .pre) (c .before .if1 .taken)
-
-shared-slice-read-result-2 : tie.Need-shared-slice-read-result-2
-shared-slice-read-result-2 c = search needs
-
 cast-result : tie.Need-cast-result
-cast-result c = omega (arith, c .shared-slice-known3 .given (c .before .before .before .args .t))
+cast-result c = omega (arith, c .shared-slice-known4 .given (c .before .before .before .before .before .before .args .t))
 
 returns-2 : tie.Need-returns-2
-returns-2 c = floor-open (c .before .before .before .pre) (c .before .if1 .left)
+returns-2 c = floor-open (c .before .before .flag .ensures) (c .before .if1 .left)
 
 pub floor-spec : {M : Type 1} → statement M
 floor-spec =
     tie.close
-    (tie.spec
-    mul-if1
-    shared-slice-read-if1
-    mul-result
-    shared-slice-read-result
-    returns
-    shared-slice-read-result-2
-    cast-result
-    returns-2)
+    (tie.spec flag-requires level-requires returns shared-slice-read-result cast-result returns-2)

@@ -1,27 +1,27 @@
--- `listing::show` meets its contract. The part that was read is no longer than the file can be, and what is printed is the listing.
+-- `listing::show` meets its contract. What is written is the listing of what was read.
 use borrow.Author.Needs.{needs}
 use mathlib.Core.Path.{refl, sym}
-use native.Mathlib.Omega.{arith}
-use denote.Ref.{now}
 use lib.Seq.{length-take-le}
 use Rattle.listing.proofs.show.Statement.{statement}
 use Rattle.listing.proofs.show.Tie as tie
 
 slice-aggregate-list : tie.Need-slice-aggregate-list
-slice-aggregate-list c = sym (length-take-le _ _ (c .before .before .pre .0))
+slice-aggregate-list c = sym (length-take-le _ _ (c .before .before .pre))
 
 slice-aggregate-list-2 : tie.Need-slice-aggregate-list-2
 slice-aggregate-list-2 c = search needs
 
 list-requires : tie.Need-list-requires
-list-requires c κs =
-    let s = c .before .before .before in (omega (arith, length-take-le (s .args .n) (now (s .args .file)) (s .pre .0), s .pre .1), refl)
+list-requires c κs = refl
 
-slice-aggregate-print : tie.Need-slice-aggregate-print
-slice-aggregate-print c = search needs
+array-share-prefix-text : tie.Need-array-share-prefix-text
+array-share-prefix-text c = c .before .list .ensures .within
 
-print-requires : tie.Need-print-requires
-print-requires c κs = search needs
+slice-aggregate-write-all : tie.Need-slice-aggregate-write-all
+slice-aggregate-write-all c = sym (length-take-le _ _ (c .before .before .list .ensures .within))
+
+write-all-requires : tie.Need-write-all-requires
+write-all-requires c κs = search needs
 
 returns : tie.Need-returns
 returns c = search needs
@@ -33,6 +33,7 @@ show-spec =
     slice-aggregate-list
     slice-aggregate-list-2
     list-requires
-    slice-aggregate-print
-    print-requires
+    array-share-prefix-text
+    slice-aggregate-write-all
+    write-all-requires
     returns)

@@ -1,29 +1,31 @@
 -- What the program's parts promise one another.
-use Prim.Native.Nat.{ℕ, _+_, _*_, _≤_}
+use Prim.Native.Nat.{ℕ, _+_, _≤_}
 use mathlib.Core.List.{List}
 use lib.ListN.{length, take}
+use Rattle.refusal.specs.promise.Number.{numberOf}
 use Rattle.game.specs.promise.Tables.{Tables, tablesOf, vertices, WellFormed}
-use Rattle.game.specs.promise.Answer.{Answer}
-use Rattle.game.specs.promise.Lent.{Lent}
+use Rattle.storage.specs.promise.Answer.{Answer}
+use Rattle.game.specs.promise.Lent.{Fit}
+use Rattle.storage.specs.promise.Lent.{Lent, lentSizes}
+use Rattle.housefile.specs.declared.Read.{Read}
+use Rattle.housefile.specs.declared.Read.the-variants.{Game, Refused}
 use Rattle.solver.specs.promise.Solving.{IsSolution}
+use Rattle.lines.specs.promise.Lines.{refusedLine}
 use Rattle.listing.specs.promise.Listing.{gameText}
-use Rattle.listing.specs.parts.Append.{Appended}
+use Rattle.text.specs.parts.Append.{Appended}
 
 -- the tables' beginnings: as much as n vertices and m edges take
 abbrev pub frontOf : (n m : ℕ) → Tables → Tables
 frontOf n m t = tablesOf (take n (t .owners)) (take n (t .priorities)) (take (n + 1) (t .starts)) (take m (t .targets))
 
--- an answer's beginning, for n vertices
-abbrev pub answerFront : ℕ → Answer → Answer
-answerFront n a = record { winners = take n (a .winners); moves = take n (a .moves) }
+-- a well-formed game, with an answer and work space of the right lengths
+pub record Solvable (t : Tables) (l : Lent) : Type 0 where
+  pub well-formed : WellFormed t
+  pub fit : Fit (lentSizes (vertices t) (length (l .answer .winners)) (length (l .answer .moves)) (length (l .work)))
 
--- tables and an answer of at least n vertices
-pub record Listable (n : ℕ) (owners priorities winners moves : List ℕ) : Type 0 where
-  pub few : n ≤ 2048
-  pub owners-long : n ≤ length owners
-  pub priorities-long : n ≤ length priorities
-  pub winners-long : n ≤ length winners
-  pub moves-long : n ≤ length moves
+-- the answer is a solution of the game
+pub record Solution (t : Tables) (a : Answer) : Type 0 where
+  pub is : IsSolution t a
 
 -- tables at whose beginnings a well-formed game of n vertices and m edges stands
 pub record Tabled (n m : ℕ) (t : Tables) : Type 0 where
@@ -33,22 +35,19 @@ pub record Tabled (n m : ℕ) (t : Tables) : Type 0 where
   pub targets-long : m ≤ length (t .targets)
   pub well-formed : WellFormed (frontOf n m t)
 
--- the same with room for the answer
-pub record Solvable (n m : ℕ) (t : Tables) (l : Lent) : Type 0 where
-  pub tabled : Tabled n m t
-  pub winners-long : n ≤ length (l .answer .winners)
-  pub moves-long : n ≤ length (l .answer .moves)
-  pub work-long : 4 * n ≤ length (l .work)
-
--- at the beginning of the lists stands a solution of the game at the tables' beginnings
-pub record AnsweredHere (n m : ℕ) (t : Tables) (a : Answer) : Type 0 where
-  pub winners-long : n ≤ length (a .winners)
-  pub moves-long : n ≤ length (a .moves)
-  pub solution : IsSolution (frontOf n m t) (answerFront n a)
-
 -- the lines of the game of the tables with a solution stand in the first r bytes
 pub record AnswerListed (t : Tables) (before after : List ℕ) (r : ℕ) : Type 0 where
   pub answer : Answer
   pub solution : IsSolution t answer
   pub within : r ≤ length after
   pub done : Appended before after 0 (gameText (vertices t) (length (t .targets)) t answer) r
+
+-- what was read, as the tables must hold it: at their beginnings, a well-formed game
+abbrev pub Tellable : Read → Tables → Type 0
+Tellable (Game h) t = Tabled (h .vertices) (h .edges) t
+Tellable (Refused f) t = Unit {0}
+
+-- what was read, as it is told: the lines of its game, or the line of its refusal
+abbrev pub Told : Read → Tables → (before after : List ℕ) → ℕ → Type 0
+Told (Game h) t before after r = AnswerListed (frontOf (h .vertices) (h .edges) t) before after r
+Told (Refused f) t before after r = Appended before after 0 (refusedLine (numberOf (f .kind)) (f .place)) r

@@ -2,20 +2,20 @@
 use Prim.Native.Nat.{ℕ, _≤_, _<_}
 use mathlib.Core.Path.{_≡_}
 use mathlib.Core.Logic.{_⊎_, _↔_}
-use mathlib.Core.List.{List, _++_}
-use lib.ListN.{length, getD, take, drop}
+use mathlib.Core.List.{List}
+use lib.ListN.{length, take, drop}
 use Rattle.refusal.specs.promise.Row.{None, First}
 use Rattle.game.specs.promise.Tables.{Tables}
-use Rattle.game.specs.promise.Answer.{Answer}
+use Rattle.storage.specs.promise.Answer.{Answer, moveOf}
 use Rattle.winning.specs.promise.Answer.{noMove}
 use Rattle.solver.specs.promise.Solving.{IsSolution}
-use Rattle.housefile.specs.promise.Filed.{verticesFiled, edgesFiled, tablesFiled}
-use Rattle.housefile.specs.promise.Faults.{judgedRows}
-use Rattle.listing.specs.promise.Text.{gameLine, vertexLines, refusedLine}
+use Rattle.blocks.specs.promise.Filed.{verticesFiled, edgesFiled, tablesFiled}
+use Rattle.blocks.specs.promise.Faults.{judgedRows}
+use Rattle.lines.specs.promise.Lines.{gameLines, refusedLine}
 
 -- the lines of a game of n vertices and m edges with an answer
 abbrev pub gameText : (n m : ℕ) → Tables → Answer → List ℕ
-gameText n m t a = gameLine n m ++ vertexLines (t .owners) (t .priorities) (a .winners) (a .moves) n
+gameText n m t a = gameLines (t .owners) (t .priorities) (a .winners) (a .moves) n m
 
 -- no row refuses the file, and the text lists its game with a solution
 pub record GameListed (file text : List ℕ) : Type 0 where
@@ -51,7 +51,7 @@ pub record ButForMoves (a b : List ℕ) : Type 0 where
   pub moves′ : List ℕ
   pub one : a ≡ gameText n m tables (record { winners = winners; moves = moves })
   pub other : b ≡ gameText n m tables (record { winners = winners; moves = moves′ })
-  pub dashes : (v : ℕ) → v < n → (getD moves v 0 ≡ noMove) ↔ (getD moves′ v 0 ≡ noMove)
+  pub dashes : (v : ℕ) → v < n → (moveOf moves v ≡ noMove) ↔ (moveOf moves′ v ≡ noMove)
 
 -- two listings agree: they are the same text, or the same but for moves
 abbrev pub Agree : (a b : List ℕ) → Type 0

@@ -1,13 +1,13 @@
 -- `solver::solve` meets its contract: 1 to 8, and then the answer.
 -- Assumes nothing.
-use mathlib.Core.Path.{refl, _∙_}
+use mathlib.Core.Path.{refl}
 use native.Mathlib.Omega.{arith}
 use Rattle.refusal.specs.promise.Row.{None}
 use Rattle.refusal.proofs.Rows.{Given, passed, tested-refused}
 use Rattle.game.specs.promise.Tables.{Tables}
-use Rattle.game.specs.promise.Lent.{Lent, asked, buffers}
-use Rattle.game.proofs.Lent.{lent-formed, lent-fit}
-use Rattle.game.proofs.Stores.{room-is}
+use Rattle.game.specs.promise.Lent.{asked}
+use Rattle.storage.specs.promise.Lent.{Lent, buffers}
+use Rattle.storage.proofs.Passed.{lent-formed, lent-fit}
 use Rattle.solver.specs.promise.Solving.{solveRows}
 use borrow.Author.Needs.{needs}
 use Rattle.solver.proofs.solve.Statement.{statement}
@@ -43,7 +43,7 @@ answer-requires c κs = let n = none (c .before .before .before) in
     let f = lent-fit _ _ _ _ n in
     record {
       well-formed = lent-formed _ _ _ _ (λ v. omega (arith, c .before .before .before .before .before .before .before .before .before .before .before .shared-slice-known2 .given v)) n;
-      winners-long = room-is _ ∙ f .0;
+      stored = record { cells = f .0 };
       moves-long = f .1 .0;
       work-long = f .1 .1 .0;
     }

@@ -1,23 +1,25 @@
 -- The start with nothing kept.
-use Prim.Native.Nat.{ℕ, _*_, _<_}
+use Prim.Native.Nat.{ℕ, _*_, _<_, _≤_}
 use mathlib.Core.Path.{_≡_}
 use mathlib.Core.List.{List}
 use lib.ListN.{length, getD}
 use Rattle.player.specs.promise.Player.{parityOf}
 use Rattle.game.specs.promise.Tables.{Tables, vertices, WellFormed}
-use Rattle.game.specs.promise.Answer.{markRoom, markOf}
-use Rattle.game.specs.promise.Lent.{Lent}
-use Rattle.reach.specs.parts.Work.{section}
-use Rattle.reach.specs.parts.Lists.{Filled}
+use Rattle.storage.specs.promise.Answer.{markOf}
+use Rattle.storage.specs.parts.Answers.{Stored}
+use Rattle.storage.specs.promise.Lent.{Lent}
+use Rattle.space.specs.parts.Work.{section}
+use Rattle.lists.specs.parts.Cells.{Filled}
 
 -- lists of the right lengths
 pub record Startable (priorities winners work : List ℕ) : Type 0 where
-  pub winners-long : markRoom winners ≡ length priorities
+  pub small : length priorities ≤ 2048
+  pub stored : Stored (length priorities) winners
   pub work-long : length work ≡ 4 * length priorities
 
 -- every vertex is open, with the mark of its own priority's parity, and none is reached by a closure
 pub record AllOpen (priorities winners work winners′ work′ : List ℕ) : Type 0 where
-  pub room : markRoom winners′ ≡ markRoom winners
+  pub winners-long : length winners′ ≡ length winners
   pub long : length work′ ≡ length work
   pub mark : (v : ℕ) → v < length priorities → markOf winners′ v ≡ parityOf (getD priorities v 0)
   pub flag : (v : ℕ) → v < length priorities → getD (section 0 (length priorities) work′) v 0 ≡ 1
@@ -26,6 +28,6 @@ pub record AllOpen (priorities winners work winners′ work′ : List ℕ) : Typ
 -- 1 to 8 do not apply
 pub record Answerable (t : Tables) (lent : Lent) : Type 0 where
   pub well-formed : WellFormed t
-  pub winners-long : markRoom (lent .answer .winners) ≡ vertices t
+  pub stored : Stored (vertices t) (lent .answer .winners)
   pub moves-long : length (lent .answer .moves) ≡ vertices t
   pub work-long : length (lent .work) ≡ 4 * vertices t

@@ -6,8 +6,8 @@ use lib.ListN.{length}
 use Rattle.refusal.specs.promise.Row.{Row, Said, success, refused, None, First}
 use Rattle.refusal.specs.promise.Number.{saidOf}
 use Rattle.game.specs.promise.Tables.{Tables, gameOf}
-use Rattle.game.specs.promise.Answer.{Answer, markOf, moveOf}
-use Rattle.game.specs.promise.Lent.{Lent, lentRows, Zeroed}
+use Rattle.storage.specs.promise.Answer.{Answer, markOf, moveOf}
+use Rattle.storage.specs.promise.Lent.{Lent, lentRows, Zeroed}
 use Rattle.winning.specs.promise.Answer.{Solution}
 use Rattle.solver.specs.declared.Solved.{Solved}
 use Rattle.solver.specs.declared.Solved.the-variants.{Done, Refused}

@@ -1,4 +1,4 @@
--- `step::step` meets its contract: the vertex is settled with the mark that it has, or turned (Settling).
+-- `step::step` meets its contract: its two branches (Settling).
 -- Assumes nothing.
 use mathlib.Core.Path.{sym, _∙_}
 use Rattle.step.proofs.Settling.{settlable, by-keeping, by-turning}
@@ -13,7 +13,7 @@ of-priority-requires : tie.Need-of-priority-requires
 of-priority-requires c κs = search needs
 
 keep-requires : tie.Need-keep-requires
-keep-requires c κs = settlable (c .before .before .before .before .before .before .before .before .before .before .before .before .before .before .before .before .before .before .before .before .pre)
+keep-requires c κs = settlable (c .before .before .before .before .before .before .before .before .before .before .before .before .before .before .before .pre)
 
 same-length : tie.Need-same-length
 same-length c = search needs
@@ -25,10 +25,10 @@ same-length-3 : tie.Need-same-length-3
 same-length-3 c = search needs
 
 returns : tie.Need-returns
-returns c = by-keeping (c .before .before .before .before .before .before .before .before .before .before .before .before .before .before .before .before .before .before .before .before .before .before .before .before .before .before .before .pre) (c .before .before .before .before .before .before .before .before .before .before .if1 .taken ∙ c .before .before .before .before .before .before .before .before .before .before .before .before .before .of-priority .ensures) (c .before .before .before .before .before .before .keep .ensures .0) (c .before .before .before .before .before .before .keep .ensures .1 .0) (c .before .before .before .before .before .before .keep .ensures .1 .1)
+returns c = let k = c .before .before .before .before .before .before .keep .ensures in by-keeping (c .before .before .before .before .before .before .before .before .before .before .before .before .before .before .before .before .before .before .before .before .before .before .pre) (c .before .before .before .before .before .before .before .before .before .before .if1 .taken ∙ c .before .before .before .before .before .before .before .before .before .before .before .before .before .of-priority .ensures) (k .0) (k .1 .0) (k .1 .1 .0) (k .1 .1 .1)
 
 turn-requires : tie.Need-turn-requires
-turn-requires c κs = search needs
+turn-requires c κs = c .before .before .before .before .before .before .before .before .before .before .before .before .before .before .before .before .pre
 
 same-length-4 : tie.Need-same-length-4
 same-length-4 c = search needs
@@ -42,17 +42,8 @@ same-length-6 c = search needs
 same-length-7 : tie.Need-same-length-7
 same-length-7 c = search needs
 
-same-length-8 : tie.Need-same-length-8
-same-length-8 c = search needs
-
-same-length-9 : tie.Need-same-length-9
-same-length-9 c = search needs
-
-same-length-10 : tie.Need-same-length-10
-same-length-10 c = search needs
-
 returns-2 : tie.Need-returns-2
-returns-2 c = by-turning (λ e. c .before .before .before .before .before .before .before .before .before .before .before .before .before .before .before .before .before .before .before .before .before .before .if1 .left (e ∙ sym (c .before .before .before .before .before .before .before .before .before .before .before .before .before .before .before .before .before .before .before .before .before .before .before .before .before .of-priority .ensures))) (c .before .before .before .before .before .before .before .before .before .before .before .before .before .before .turn .ensures)
+returns-2 c = by-turning (λ e. c .before .before .before .before .before .before .before .before .before .before .before .before .before .if1 .left (e ∙ sym (c .before .before .before .before .before .before .before .before .before .before .before .before .before .before .before .before .of-priority .ensures))) (c .before .before .before .before .before .before .before .before .turn .ensures)
 
 pub step-spec : {M : Type 1} → statement M
 step-spec =
@@ -70,7 +61,4 @@ step-spec =
     same-length-5
     same-length-6
     same-length-7
-    same-length-8
-    same-length-9
-    same-length-10
     returns-2)

@@ -4,18 +4,19 @@ use mathlib.Core.Path.{_≡_}
 use mathlib.Core.List.{List}
 use lib.ListN.{length, getD}
 use Rattle.game.specs.promise.Tables.{gameOf, WellFormed, Tables, vertices}
-use Rattle.game.specs.promise.Answer.{markRoom, markOf, moveOf}
+use Rattle.storage.specs.promise.Answer.{markOf, moveOf}
+use Rattle.storage.specs.parts.Answers.{Stored}
 use Rattle.justification.specs.parts.Safe.{Safe}
 use Rattle.justification.specs.parts.Start.{Closed}
-use Rattle.reach.specs.parts.Work.{section}
-use Rattle.reach.specs.parts.Lists.{Filled}
+use Rattle.space.specs.parts.Work.{section}
+use Rattle.lists.specs.parts.Cells.{Filled}
 use Rattle.levels.specs.parts.Levels.{settledOf}
 
 module _ (tables : Tables) (winners moves work : List ℕ) where
   -- a safe state of a well-formed game in lists of the right lengths, nothing reached by a closure
   pub record State : Type 0 where
     pub well-formed : WellFormed tables
-    pub winners-long : markRoom winners ≡ vertices tables
+    pub stored : Stored (vertices tables) winners
     pub moves-long : length moves ≡ vertices tables
     pub work-long : length work ≡ 4 * vertices tables
     pub unreached : Filled (section 1 (vertices tables) work) 0

@@ -5,26 +5,25 @@ use mathlib.Core.List.{List}
 use lib.ListN.{length}
 use Rattle.player.specs.promise.Player.{IsPlayer}
 use Rattle.game.specs.promise.Tables.{gameOf, Tables, vertices}
-use Rattle.game.specs.promise.Answer.{markOf, moveOf}
+use Rattle.storage.specs.promise.Answer.{markOf, moveOf}
 use Rattle.justification.specs.parts.Safe.{Onward, Eligible, Levelled}
 use Rattle.justification.specs.parts.Step.{TestGives}
 use Rattle.justification.specs.parts.Measure.{measure}
-use Rattle.reach.specs.parts.Work.{section}
-use Rattle.reach.specs.parts.Lists.{Preds, EdgesOf}
+use Rattle.space.specs.parts.Work.{section}
+use Rattle.space.specs.parts.Desk.{Desk}
+use Rattle.preds.specs.parts.Preds.{Preds}
 use Rattle.pick.specs.parts.Lines.{Covered}
 use Rattle.pick.specs.parts.Moves.{Standing}
 use Rattle.levels.specs.parts.Levels.{settledOf, levelOf}
 use Rattle.step.specs.parts.State.{State, Carried}
 
 -- a state with the predecessor lists of the game, the lines, in which every open vertex waits, and the levels of the settled ones
-pub record Engine (tables : Tables) (heads nexts sources firsts lasts waiting levels winners moves work : List ℕ) : Type 0 where
+pub record Engine (tables : Tables) (ins froms : List ℕ) (d : Desk) (winners moves work : List ℕ) : Type 0 where
   pub state : State tables winners moves work
-  pub preds : Preds (vertices tables) (tables .targets) heads nexts sources
-  pub edges : EdgesOf (vertices tables) (tables .starts) (tables .targets) sources
-  pub standing : Standing (vertices tables) (tables .priorities) firsts lasts waiting work
-  pub covered : Covered (vertices tables) (section 0 (vertices tables) work) waiting
-  pub levels-long : length levels ≡ 2048
-  pub levelled : Levelled (gameOf tables) (markOf winners) (moveOf moves) (settledOf (vertices tables) work) (levelOf levels)
+  pub preds : Preds (gameOf tables) ins froms
+  pub standing : Standing (vertices tables) (tables .priorities) d work
+  pub covered : Covered (vertices tables) (section 0 (vertices tables) work) (d .waiting)
+  pub levelled : Levelled (gameOf tables) (markOf winners) (moveOf moves) (settledOf (vertices tables) work) (levelOf (d .levels))
 
 -- the winner p, the move m and the level k fit v: it is open, the test by its successors gives them, and supports stay above v's priority and k
 pub record Fitting (v p m k : ℕ) (tables : Tables) (winners moves work : List ℕ) : Type 0 where
@@ -34,8 +33,8 @@ pub record Fitting (v p m k : ℕ) (tables : Tables) (winners moves work : List 
   pub onward : Onward (gameOf tables) (markOf winners) (moveOf moves) (settledOf (vertices tables) work) v p m k
 
 -- the engine after any number of steps: kept sets are kept
-pub record Moved (tables : Tables) (heads nexts sources winners moves work firsts′ lasts′ waiting′ levels′ winners′ moves′ work′ : List ℕ) : Type 0 where
-  pub engine : Engine tables heads nexts sources firsts′ lasts′ waiting′ levels′ winners′ moves′ work′
+pub record Moved (tables : Tables) (ins froms winners moves work : List ℕ) (d′ : Desk) (winners′ moves′ work′ : List ℕ) : Type 0 where
+  pub engine : Engine tables ins froms d′ winners′ moves′ work′
   pub winners-long : length winners′ ≡ length winners
   pub carried : Carried tables winners moves work winners′ moves′ work′
 

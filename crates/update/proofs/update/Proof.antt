@@ -1,7 +1,8 @@
 -- `update::update` meets its contract: the tests before the checker's refuse, or what follows them gives the outcome (Outcomes).
 -- Assumes nothing.
 use Rattle.refusal.proofs.Rows.{tested-passed}
-use Rattle.game.specs.promise.Lent.{Lent, asked, claim, buffers}
+use Rattle.game.specs.promise.Lent.{asked}
+use Rattle.storage.specs.promise.Lent.{Lent, claim, buffers}
 use Rattle.update.specs.promise.Updating.{Input, inputOf, testRows}
 use Rattle.update.proofs.Outcomes.{refused-early}
 use borrow.Author.Needs.{needs}

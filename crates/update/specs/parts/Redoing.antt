@@ -1,21 +1,25 @@
 -- What the part after the tests asks, what the part after acceptance asks and gives.
 use Prim.Native.Nat.{ℕ, _<_}
+use mathlib.Core.List.{List}
+use Rattle.lists.specs.parts.Cells.{Filled}
 use Rattle.game.specs.promise.Tables.{vertices, gameOf}
-use Rattle.game.specs.promise.Answer.{markOf, moveOf}
-use Rattle.game.specs.promise.Lent.{Lent, Fit}
+use Rattle.storage.specs.promise.Answer.{markOf, moveOf}
+use Rattle.game.specs.promise.Lent.{Fit}
+use Rattle.storage.specs.promise.Lent.{Lent}
 use Rattle.winning.specs.promise.Faults.{Accepted}
+use Rattle.preds.specs.parts.Preds.{Preds}
 use Rattle.solver.specs.promise.Solving.{Written}
-use Rattle.reach.specs.parts.Lists.{Filled}
-use Rattle.update.specs.promise.Amended.{CountOf}
+use Rattle.amend.specs.promise.Amended.{CountOf}
 use Rattle.update.specs.promise.Updating.{Input, updateSizes, Redone, OldLine}
-use Rattle.update.specs.parts.Marking.{Paired}
+use Rattle.amend.specs.parts.Marking.{Paired}
 
--- the games and buffers have passed every test, the old answer is accepted, the work space is all zero
-pub record Redoable (i : Input) (lent : Lent) : Type 0 where
+-- the games and buffers have passed every test, the old answer is accepted, the work space is all zero; and the predecessor lists of the second game
+pub record Redoable (i : Input) (lent : Lent) (ins froms : List ℕ) : Type 0 where
   pub paired : Paired (i .first) (i .second)
   pub fit : Fit (updateSizes i lent)
   pub accepted : Accepted (gameOf (i .first)) (markOf (i .old .winners)) (moveOf (i .old .moves))
   pub blank : Filled (lent .work) 0
+  pub preds : Preds (gameOf (i .second)) ins froms
 
 -- the number of vertices that the amendment reaches, and a solution in which the others have their old lines
 pub record RedoneTo (i : Input) (before after : Lent) (count : ℕ) : Type 0 where

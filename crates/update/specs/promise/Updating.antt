@@ -8,13 +8,14 @@ use Rattle.refusal.specs.promise.Row.{Row, row, Said, success, refused, None, F
 use Rattle.refusal.specs.promise.Number.{saidOf}
 use Rattle.game.specs.promise.Tables.{Tables, vertices, gameOf}
 use Rattle.game.specs.promise.Faults.{tableRows}
-use Rattle.game.specs.promise.Answer.{Answer, markOf, moveOf}
-use Rattle.game.specs.promise.Lent.{Lent, Sized, sized, Fault8, lentSizes, Leaves}
+use Rattle.storage.specs.promise.Answer.{Answer, winnerCells, markOf, moveOf}
+use Rattle.game.specs.promise.Lent.{Sized, sized, Fault8}
+use Rattle.storage.specs.promise.Lent.{Lent, lentSizes, Leaves}
 use Rattle.checker.specs.promise.Checking.{IsRight, judgeRows}
 use Rattle.solver.specs.promise.Solving.{Written}
 use Rattle.update.specs.declared.Updated.{Updated}
 use Rattle.update.specs.declared.Updated.the-variants.{Done, Refused}
-use Rattle.update.specs.promise.Amended.{Reaches, CountOf}
+use Rattle.amend.specs.promise.Amended.{Reaches, CountOf}
 
 -- in numbers: the count, or the refusal
 abbrev pub updatedSaid : Updated → Said
@@ -44,7 +45,7 @@ pub record Fault9 (n m x : ℕ) : Type 0 where
 abbrev pub updateSizes : Input → Lent → List Sized
 updateSizes i l =
     let n = vertices (i .first) in
-    sized (length (i .old .winners)) n ∷
+    sized (length (i .old .winners)) (winnerCells n) ∷
     sized (length (i .old .moves)) n ∷
     lentSizes n (length (l .answer .winners)) (length (l .answer .moves)) (length (l .work))
 

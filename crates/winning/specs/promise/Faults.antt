@@ -1,4 +1,4 @@
--- The rows 11 to 14: what may be wrong with an answer, and at which vertices. (docs/RULES.md, Refusals)
+-- The rows 12 to 14: what may be wrong with an answer, and at which vertices. (docs/RULES.md, Refusals)
 use Prim.Native.Nat.{ℕ, _<_}
 use mathlib.Core.Path.{_≡_}
 use mathlib.Core.Logic.{_≢_}
@@ -14,11 +14,6 @@ module _ (g : Game) (mark move : ℕ → ℕ) where
   pub record Recorded (v w : ℕ) : Type 0 where
     pub edge : Edge g v w
     pub fixed : g .owner v ≡ mark v → w ≡ move v
-
-  -- 11: the mark is no player
-  pub record Fault11 (x : ℕ) : Type 0 where
-    pub vertex : x < g .n
-    pub strange : ¬ IsPlayer (mark x)
 
   -- 12: where the winner owns, the move is no successor with his mark; elsewhere there is a move
   pub data Fault12 (x : ℕ) : Type 0 where
@@ -39,10 +34,11 @@ module _ (g : Game) (mark move : ℕ → ℕ) where
     pub own-highest : highest g (x ∷ rest) ≡ g .priority x
     pub lost : parityOf (g .priority x) ≢ mark x
 
-  -- the rows 11 to 14 in their order
+  -- the rows 12 to 14 in their order
   abbrev pub answerRows : List Row
-  answerRows = row 11 Fault11 ∷ row 12 Fault12 ∷ row 13 Fault13 ∷ row 14 Fault14 ∷ []
+  answerRows = row 12 Fault12 ∷ row 13 Fault13 ∷ row 14 Fault14 ∷ []
 
-  -- an accepted answer: none of them applies
-  abbrev pub Accepted : Type 0
-  Accepted = None answerRows
+  -- an accepted answer: its marks are players, and none of the rows applies
+  pub record Accepted : Type 0 where
+    pub players : (v : ℕ) → v < g .n → IsPlayer (mark v)
+    pub none : None answerRows

@@ -4,8 +4,8 @@ use mathlib.Core.Path.{_≡_}
 use mathlib.Core.List.{List, [], _∷_}
 use Rattle.refusal.specs.promise.Row.{Said, success, refused}
 use Rattle.game.specs.promise.Tables.{Tables}
-use Rattle.game.specs.promise.Answer.{Answer}
-use Rattle.game.specs.promise.Lent.{Lent}
+use Rattle.storage.specs.promise.Answer.{Answer}
+use Rattle.storage.specs.promise.Lent.{Lent}
 use Rattle.checker.specs.promise.Checking.{Checks}
 use Rattle.solver.specs.promise.Solving.{Solves}
 use Rattle.update.specs.promise.Updating.{Input, Updates}
@@ -57,17 +57,21 @@ ReadsBy file before after = Told (Reads file before after)
 --   game      Game        games, edges, what is asked of a game
 --   game      Tables      how a game is stored, well-formed tables
 --   game      Faults      1 to 7
---   game      Answer      how an answer is stored
---   game      Lent        8, the work space, how contracts speak of what is lent
+--   game      Lent        8, how contracts speak of tables
+--   storage   Answer      how an answer is stored
+--   storage   Lent        the lent lists, 8 on them, how contracts speak of them
+--   storage   Faults      11
 --   winning   Walk, Cycle, Wins    what it is to win a vertex
 --   winning   Answer      a solution, a right answer
---   winning   Faults      11 to 14
+--   winning   Faults      12 to 14
 --   checker   Checking    `check`
 --   solver    Solving     `solve`
---   update    Amended     what an amendment reaches
+--   amend     Amended     what an amendment reaches
 --   update    Updating    `update`
---   housefile Format      a file's bytes
---   housefile Filed       what stands in a file
---   housefile Faults      the reader's rows
+--   blocks    Format      a file's bytes
+--   blocks    Filed       what stands in a file
+--   blocks    Faults      the rows that judge a file
+--   decoding  Holding     what tables of the fixed sizes hold
+--   housefile Faults      8 on the lent tables, behind the file's rows
 --   housefile Reading     `read`
 -- All other files under `specs`, in the folders `specs/parts`, say what internal functions ask of one another.

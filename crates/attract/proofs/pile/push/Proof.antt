@@ -1,40 +1,29 @@
--- `attract::pile::push` meets its contract: a full pile stays, another gets one vertex more (Piles).
+-- `attract::pile::push` meets its contract: one vertex more (Piles).
 -- Assumes nothing.
 use native.Mathlib.Omega.{arith}
-use Rattle.attract.proofs.Piles.{pushed-one}
+use Rattle.attract.proofs.Piles.{pushed-none, pushed-one}
 use borrow.Author.Needs.{needs}
 use Rattle.attract.proofs.pile.push.Statement.{statement}
 use Rattle.attract.proofs.pile.push.Tie as tie
 
 returns : tie.Need-returns
-returns c = record { piled = λ n l a. a }
+returns c = pushed-none (c .before .before .pre .laid)
 
-cast-stack : tie.Need-cast-stack
-cast-stack c = omega (arith, c .before .pre .small)
+cast-set-piled : tie.Need-cast-set-piled
+cast-set-piled c = search needs
 
-mul-stack : tie.Need-mul-stack
-mul-stack c = omega (arith, c .before .pre .within, c .before .pre .long)
-
-slice-write-stack : tie.Need-slice-write-stack
-slice-write-stack c = omega (arith, c .before .pre .within, c .before .pre .long, c .if1 .left)
+set-piled-requires : tie.Need-set-piled-requires
+set-piled-requires c κs = (c .before .before .before .pre .laid, omega (arith, c .before .before .before .pre .within, c .before .if1 .left))
 
 add-result : tie.Need-add-result
-add-result c = omega (arith, c .before .pre .within)
+add-result c = search needs
 
 same-length : tie.Need-same-length
 same-length c = search needs
 
 returns-2 : tie.Need-returns-2
-returns-2 c = pushed-one (c .before .pre) (c .if1 .left)
+returns-2 c = pushed-one (c .before .before .before .before .before .before .pre) (c .before .before .before .before .if1 .left) (c .before .before .set-piled .ensures)
 
 pub push-spec : {M : Type 1} → statement M
 push-spec =
-    tie.close
-    (tie.spec
-    returns
-    cast-stack
-    mul-stack
-    slice-write-stack
-    add-result
-    same-length
-    returns-2)
+    tie.close (tie.spec returns cast-set-piled set-piled-requires add-result same-length returns-2)

@@ -1,53 +1,29 @@
--- `reach::closure::clear` meets its contract. The invariant, `ClearingIn`: the marks that are left are in the queue from place i on.
+-- `reach::closure::clear` meets its contract. The invariant, `ClearingIn`: the reached vertices that are left are in the queue from place i on.
 -- Assumes nothing.
-use Prim.Native.Nat.{_+_, _*_, _-_, _<_}
 use borrow.Author.Needs.{needs}
-use native.Mathlib.Omega.{arith}
-use lib.ListN.{getD}
-use Rattle.reach.proofs.Queues.{tail-bounded}
-use Rattle.reach.proofs.Clears.{ClearingIn, clearing-in-none, clearing-in-vertex, clearing-in-more, cleared}
+use Prim.Native.Nat.{_-_}
+use mathlib.Core.Path.{_∙_}
+use Rattle.reach.proofs.Clears.{ClearingIn, clearing-in-none, clearing-place, clearing-cell, clearing-in-more, cleared}
 use Rattle.reach.proofs.closure.clear.Statement.{statement}
 use Rattle.reach.proofs.closure.clear.Tie as tie
 
 abbrev Inv-loop : tie.InvT-loop
-Inv-loop n work₀ tail queue i₀ work i = ClearingIn n work₀ tail work i
+Inv-loop n work₀ tail i₀ work i = ClearingIn n work₀ tail work i
 
 abbrev μ-loop : tie.MeasureT-loop
-μ-loop n work₀ tail queue i₀ work i = tail - i
-
--- a turn's place is one of the queue's n, and a vertex stands there
-place : (c : tie.In-loop Inv-loop μ-loop) → c .before .loop .i < c .before .before .args .n
-place c = omega (arith, c .loop-test .taken, tail-bounded (c .before .before .pre .queued))
-
-vertex : (c : tie.In-loop Inv-loop μ-loop) → getD (c .before .loop .work) (2 * c .before .before .args .n + c .before .loop .i) 0 < c .before .before .args .n
-vertex c = clearing-in-vertex (c .before .before .pre) (c .before .loop .inv) (c .loop-test .taken)
-
-mul-queue : tie.Need-mul-queue Inv-loop μ-loop
-mul-queue c = search needs
+μ-loop n work₀ tail i₀ work i = tail - i
 
 loop-holds : tie.Need-loop-holds Inv-loop μ-loop
-loop-holds c = clearing-in-none (c .pre)
+loop-holds c = clearing-in-none (c .before .pre)
 
-add-v : tie.Need-add-v Inv-loop μ-loop
-add-v c = omega (arith, place c, c .before .before .pre .small)
+queued-requires : tie.Need-queued-requires Inv-loop μ-loop
+queued-requires c κs = clearing-place (c .before .before .before .before .pre) (c .before .before .loop .inv) (c .before .loop-test .taken)
 
-mul-v : tie.Need-mul-v Inv-loop μ-loop
-mul-v c = omega (arith, place c, c .before .before .pre .small)
+wide-requires : tie.Need-wide-requires Inv-loop μ-loop
+wide-requires c κs = search needs
 
-slice-read-v : tie.Need-slice-read-v Inv-loop μ-loop
-slice-read-v c = omega (arith, place (c .before), c .before .before .loop .inv .beside .long)
-
-cast-v : tie.Need-cast-v Inv-loop μ-loop
-cast-v c = omega (arith, vertex (c .before), c .before .before .before .pre .small)
-
-add-work : tie.Need-add-work Inv-loop μ-loop
-add-work c = omega (arith, vertex (c .before), c .before .before .before .pre .small)
-
-mul-work : tie.Need-mul-work Inv-loop μ-loop
-mul-work c = omega (arith, vertex (c .before), c .before .before .before .pre .small)
-
-slice-write-work : tie.Need-slice-write-work Inv-loop μ-loop
-slice-write-work c = omega (arith, vertex (c .before), c .before .before .loop .inv .beside .long)
+set-reached-requires : tie.Need-set-reached-requires Inv-loop μ-loop
+set-reached-requires c κs = clearing-cell (c .before .before .before .before .before .before .before .pre) (c .before .before .before .before .before .loop .inv) (c .before .before .before .before .loop-test .taken) (c .before .wide .ensures ∙ c .before .before .queued .ensures)
 
 add-i : tie.Need-add-i Inv-loop μ-loop
 add-i c = search needs
@@ -56,13 +32,13 @@ loop-less : tie.Need-loop-less Inv-loop μ-loop
 loop-less c = search needs
 
 loop-again : tie.Need-loop-again Inv-loop μ-loop
-loop-again c = clearing-in-more (c .before .before .before .pre) (c .before .before .loop .inv) (c .before .loop-test .taken)
+loop-again c = clearing-in-more (c .before .before .before .before .before .before .before .before .before .before .pre) (c .before .before .before .before .before .before .before .before .loop .inv) (c .before .before .before .before .before .before .before .loop-test .taken) (c .before .before .before .before .wide .ensures ∙ c .before .before .before .before .before .queued .ensures) (c .before .before .set-reached .ensures)
 
 same-length : tie.Need-same-length Inv-loop μ-loop
 same-length c = search needs
 
 returns : tie.Need-returns Inv-loop μ-loop
-returns c = cleared (c .before .before .pre) (c .before .loop .inv) (c .loop-test .left)
+returns c = cleared (c .before .before .before .pre) (c .before .loop .inv) (c .loop-test .left)
 
 pub clear-spec : {M : Type 1} → statement M
 clear-spec =
@@ -70,15 +46,10 @@ clear-spec =
     (tie.spec
     Inv-loop
     μ-loop
-    mul-queue
     loop-holds
-    add-v
-    mul-v
-    slice-read-v
-    cast-v
-    add-work
-    mul-work
-    slice-write-work
+    queued-requires
+    wide-requires
+    set-reached-requires
     add-i
     loop-less
     loop-again

@@ -1,70 +1,46 @@
--- `reach::closure::close` meets its contract. The invariant, `ClosingIn`: every mark has its reason, and all allowed steps to the first h
--- vertices of the queue start at marked vertices. The measure is n - h, since the queue never has more than n vertices.
+-- `reach::closure::close` meets its contract. The invariant, `ClosingIn`: whatever is reached has its reason, and all allowed steps to the first h
+-- vertices of the queue start at reached vertices. The measure is n - h, since the queue never has more than n vertices.
 -- Assumes nothing.
-use Prim.Native.Nat.{_+_, _*_, _-_, _<_}
 use borrow.Author.Needs.{needs}
+use Prim.Native.Nat.{_-_}
+use mathlib.Core.Path.{_∙_}
 use native.Mathlib.Omega.{arith}
-use Rattle.reach.proofs.Closing.{ClosingIn, closing-in-none, closing-in-place, closing-in-visit, closing-in-more, closing-in-all}
+use Rattle.reach.proofs.Closing.{ClosingIn, closing-in-none, closing-place, closing-in-visit, closing-in-more, closing-in-all}
 use Rattle.reach.proofs.closure.close.Statement.{statement}
 use Rattle.reach.proofs.closure.close.Tie as tie
 
 abbrev Inv-loop : tie.InvT-loop
-Inv-loop n keys heads nexts sources bound choice work₀ tail queue end₀ h₀ work end h =
-    ClosingIn n keys sources choice bound work₀ work end h
+Inv-loop n ins froms bound choice work₀ tail end₀ h₀ work end h = ClosingIn n ins froms choice bound work₀ work end h
 
 abbrev μ-loop : tie.MeasureT-loop
-μ-loop n keys heads nexts sources bound choice work₀ tail queue end₀ h₀ work end h = n - h
-
-abbrev start : tie.At-loop Inv-loop μ-loop → tie.Start Inv-loop μ-loop
-start a = a .before .before .before .before .before .before .before
-
-place : (i : tie.In-loop Inv-loop μ-loop) → i .before .loop .h < start (i .before) .args .n
-place i = closing-in-place (start (i .before) .pre) (i .before .loop .inv) (i .loop-test .taken)
-
-mul-queue : tie.Need-mul-queue Inv-loop μ-loop
-mul-queue c = omega (arith, c .before .before .before .before .before .before .pre .closable .small)
+μ-loop n ins froms bound choice work₀ tail end₀ h₀ work end h = n - h
 
 loop-holds : tie.Need-loop-holds Inv-loop μ-loop
-loop-holds c = closing-in-none (c .before .before .before .before .before .before .pre)
+loop-holds c = closing-in-none (c .before .before .before .before .pre)
 
-add-w : tie.Need-add-w Inv-loop μ-loop
-add-w c = omega (arith, place c, start (c .before) .pre .closable .small)
+queued-requires : tie.Need-queued-requires Inv-loop μ-loop
+queued-requires c κs = closing-place (c .before .before .before .before .before .before .before .pre) (c .before .before .loop .inv) (c .before .loop-test .taken)
 
-mul-w : tie.Need-mul-w Inv-loop μ-loop
-mul-w c = omega (arith, place c, start (c .before) .pre .closable .small)
-
-slice-read-w : tie.Need-slice-read-w Inv-loop μ-loop
-slice-read-w c = let i = c .before in omega (arith, place i, start (i .before) .pre .long, i .before .loop .inv .beside .long)
-
-cast-w : tie.Need-cast-w Inv-loop μ-loop
-cast-w c =
-    let a = c .before .before in
-    omega (arith, c .slice-known2 .given (2 * start a .args .n + a .loop .h))
+wide-requires : tie.Need-wide-requires Inv-loop μ-loop
+wide-requires c κs = search needs
 
 visit-requires : tie.Need-visit-requires Inv-loop μ-loop
-visit-requires c κs =
-    let i = c .before .before in
-    closing-in-visit (start (i .before) .pre) (i .before .loop .inv) (i .loop-test .taken)
+visit-requires c κs = closing-in-visit (c .before .before .before .before .before .before .before .before .before .before .pre) (c .before .before .before .before .before .loop .inv) (c .before .before .before .before .loop-test .taken) (c .before .wide .ensures ∙ c .before .before .queued .ensures)
 
 add-h : tie.Need-add-h Inv-loop μ-loop
-add-h c =
-    let i = c .before .before .before .before .before in
-    omega (arith, place i, start (i .before) .pre .closable .small)
+add-h c = omega (arith, closing-place (c .before .before .before .before .before .before .before .before .before .before .before .before .before .pre) (c .before .before .before .before .before .before .before .before .loop .inv) (c .before .before .before .before .before .before .before .loop-test .taken) .within, c .before .before .before .before .before .before .before .before .before .before .before .before .before .pre .closable .small)
 
 loop-less : tie.Need-loop-less Inv-loop μ-loop
-loop-less c = omega (arith, place (c .before .before .before .before .before))
+loop-less c = omega (arith, closing-place (c .before .before .before .before .before .before .before .before .before .before .before .before .before .pre) (c .before .before .before .before .before .before .before .before .loop .inv) (c .before .before .before .before .before .before .before .loop-test .taken) .within)
 
 loop-again : tie.Need-loop-again Inv-loop μ-loop
-loop-again c =
-    let k = c .before .before in
-    let i = k .before .before .before in
-    closing-in-more (start (i .before) .pre) (i .before .loop .inv) (i .loop-test .taken) (k .visit .ensures)
+loop-again c = closing-in-more (c .before .before .before .before .before .before .before .before .before .before .before .before .before .pre) (c .before .before .before .before .before .before .before .before .loop .inv) (c .before .before .before .before .before .before .before .loop-test .taken) (c .before .before .before .before .wide .ensures ∙ c .before .before .before .before .before .queued .ensures) (c .before .before .visit .ensures)
 
 same-length : tie.Need-same-length Inv-loop μ-loop
 same-length c = search needs
 
 returns : tie.Need-returns Inv-loop μ-loop
-returns c = closing-in-all (start (c .before) .pre) (c .before .loop .inv) (c .loop-test .left)
+returns c = closing-in-all (c .before .before .before .before .before .before .pre) (c .before .loop .inv) (c .loop-test .left)
 
 pub close-spec : {M : Type 1} → statement M
 close-spec =
@@ -72,12 +48,9 @@ close-spec =
     (tie.spec
     Inv-loop
     μ-loop
-    mul-queue
     loop-holds
-    add-w
-    mul-w
-    slice-read-w
-    cast-w
+    queued-requires
+    wide-requires
     visit-requires
     add-h
     loop-less

@@ -1,9 +1,16 @@
 -- `update::refuse::test_input` meets its contract. The first game's rows, the second's, the sizes, the lengths: each joins what was said so far (Rows).
 -- Assumes nothing.
+use Prim.Native.Nat.{ℕ}
+use mathlib.Core.Path.{subst}
+use mathlib.Core.List.{_∷_}
+use lib.ListN.{length}
 use Rattle.refusal.specs.promise.Row.{None}
+use Rattle.refusal.specs.parts.Found.{Finds}
 use Rattle.refusal.proofs.Rows.{so-far, also, later, passed, none-of, none-append, first-left, tested-refused}
+use Rattle.game.specs.promise.Tables.{vertices}
 use Rattle.game.specs.promise.Faults.{tableRows}
-use Rattle.game.specs.promise.Lent.{Lent, Fault8, asked, claim, buffers}
+use Rattle.game.specs.promise.Lent.{Fault8, sized, asked}
+use Rattle.storage.specs.promise.Lent.{Lent, lentSizes, claim, buffers}
 use Rattle.game.proofs.Sizes.{fitting-of-none}
 use Rattle.update.specs.promise.Updating.{Input, inputOf, Fault9, secondRows}
 use Rattle.update.proofs.Rows.{games, sizes, none-second, refused-second}
@@ -71,6 +78,9 @@ lengths-requires c κs = fitting-of-none _ (none-of 1 (tableRows _) (none1 (c .b
 compare-requires : tie.Need-compare-requires
 compare-requires c κs = search needs
 
+cells-requires : tie.Need-cells-requires
+cells-requires c κs = search needs
+
 compare-requires-2 : tie.Need-compare-requires-2
 compare-requires-2 c κs = search needs
 
@@ -79,10 +89,16 @@ or-requires-2 c κs = search needs
 
 returns-3 : tie.Need-returns-3
 returns-3 c =
-    let s = c .before .before .before .before .before .before .before .before .before .before .before .before .before .before .before .before .before .before .before .before .before .before .before .before .before in
-    let nine = also (Fault9 _ _) (c .before .before .before .before .or .ensures) so-far (c .before .before .before .before .before .same-size .ensures) in
-    let eight = c .before .compare2 .ensures .joins _ (c .before .before .compare .ensures .joins _ (c .before .before .before .lengths .ensures)) in
-    later (games (input s) (lent s)) (none-append (tableRows (input s .first)) (secondRows (tableRows (input s .second))) (none1 (c .before .before .before .before .before .before .before .before .before)) (none-second (tableRows (input s .second)) (none2 (c .before .before .before .before .before .before)))) (also (Fault8 _) (c .or2 .ensures) nine eight) .gives
+    let moved = c .before .before .before in
+    let tested = moved .before in
+    let s = c .before .before .before .before .before .before .before .before .before .before .before .before .before .before .before .before .before .before .before .before .before .before .before .before .before .before in
+    let i = input s in
+    let l = lent s in
+    let n = vertices (i .first) in
+    let nine = also (Fault9 _ _) (tested .before .or .ensures) so-far (tested .before .before .same-size .ensures) in
+    let found = c .before .compare2 .ensures .joins _ (moved .compare .ensures .joins _ (tested .lengths .ensures)) in
+    let eight = subst (λ (k : ℕ). Finds (Fault8 (sized (length (i .old .winners)) k ∷ sized (length (i .old .moves)) n ∷ lentSizes n (length (l .answer .winners)) (length (l .answer .moves)) (length (l .work)))) (c .before .compare2 .result)) (c .before .before .cells .ensures) found in
+    later (games (input s) (lent s)) (none-append (tableRows (input s .first)) (secondRows (tableRows (input s .second))) (none1 (tested .before .before .before .before .before .before)) (none-second (tableRows (input s .second)) (none2 (tested .before .before .before)))) (also (Fault8 _) (c .or2 .ensures) nine eight) .gives
 
 pub test-input-spec : {M : Type 1} → statement M
 test-input-spec =
@@ -101,6 +117,7 @@ test-input-spec =
     or-requires
     lengths-requires
     compare-requires
+    cells-requires
     compare-requires-2
     or-requires-2
     returns-3)

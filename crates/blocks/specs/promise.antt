@@ -1,0 +1,3 @@
+pub mod Format
+pub mod Filed
+pub mod Faults

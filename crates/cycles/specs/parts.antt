@@ -1,0 +1,4 @@
+pub mod Levels
+pub mod Back
+pub mod Lost
+pub mod Rounds

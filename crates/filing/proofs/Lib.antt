@@ -1,0 +1,9 @@
+-- the file of a filing
+pub mod RightBlock
+pub mod Picks
+pub mod FileOf
+pub mod Written
+-- theorems: what is filed is well formed; no row refuses a file exactly if it is the file of well-formed tables
+pub mod Accepted
+pub mod Taken
+pub mod Exactly

@@ -1,0 +1,4 @@
+pub mod Tabulate
+pub mod Sums
+pub mod Stores
+pub mod Count

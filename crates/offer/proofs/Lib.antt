@@ -1,0 +1,2 @@
+pub mod Weighing
+pub mod Offers

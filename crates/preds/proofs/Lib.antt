@@ -1,0 +1,10 @@
+pub mod Hits
+pub mod Begins
+pub mod Counts
+pub mod Totals
+pub mod Ends
+pub mod Spots
+pub mod Places
+pub mod Owners
+pub mod Sorted
+pub mod Builds

@@ -1,0 +1,4 @@
+pub mod Preds
+pub mod Build
+pub mod Counting
+pub mod Placing

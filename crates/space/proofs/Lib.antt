@@ -1,0 +1,4 @@
+pub mod Parts
+pub mod Sections
+pub mod Desks
+pub mod Flags

@@ -1,0 +1,3 @@
+pub mod Looking
+pub mod Gathers
+pub mod Sweeps
