@@ -42,6 +42,7 @@ mod hard;
 mod justifications;
 mod library;
 mod timing;
+mod updates;
 
 use families::Family;
 use game::{Answer, Tables};
@@ -49,6 +50,7 @@ use library::{Buffers, Lent};
 use prng::Prng;
 use std::process::ExitCode;
 use timing::{median, median_within, Time};
+use updates::{seldom_reached, with_other_owner};
 
 const GAMES: u64 = 3;
 
@@ -201,27 +203,9 @@ fn update(
     Ok((time, count))
 }
 
-fn with_other_owner(game: &Tables, v: usize) -> Tables {
-    let mut second = game.clone();
-    second.owners[v] = 1 - second.owners[v];
-    second
-}
-
 fn right(game: &Tables, answer: &Answer) -> Result<(), String> {
     match judge::answer(game, &answer.winners, &answer.moves) {
         Some(fault) => Err(format!("a wrong answer: {fault:?}")),
         None => Ok(()),
     }
-}
-
-/// Of some vertices the one that the fewest reach.
-fn seldom_reached(game: &Tables, rng: &mut Prng) -> usize {
-    let reaching = |v: usize| {
-        judge::reaching(game, game, &with_other_owner(game, v))
-            .into_iter()
-            .filter(|&reached| reached)
-            .count()
-    };
-    let some: Vec<usize> = (0..200).map(|_| rng.below(game.n())).collect();
-    some.into_iter().min_by_key(|&v| reaching(v)).unwrap_or(0)
 }

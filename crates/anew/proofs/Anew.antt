@@ -6,8 +6,10 @@ use lib.ListN.{length}
 use Rattle.game.specs.promise.Tables.{Tables, vertices}
 use Rattle.lists.specs.parts.Cells.{Filled}
 use Rattle.storage.proofs.Zeros.{filled-zeroed}
-use Rattle.engine.specs.parts.Settling.{Settleable, SettledTo}
-use Rattle.anew.specs.parts.Deciding.{Prepared, Decidable, DecidedAnew}
+use Rattle.engine.specs.parts.Settling.{Settleable}
+use Rattle.rounds.specs.parts.Settled.{SettledTo}
+use Rattle.anew.specs.parts.Deciding.{Decidable, DecidedAnew}
+use Rattle.start.specs.parts.Preparing.{Prepared}
 use Rattle.anew.proofs.Keeping.{untouched, state-of, flag-of, kept-set}
 
 module _

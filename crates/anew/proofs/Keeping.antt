@@ -14,7 +14,8 @@ use Rattle.justification.specs.parts.Start.{Start}
 use Rattle.justification.proofs.Started.{start-safe}
 use Rattle.levels.specs.parts.Levels.{settledOf}
 use Rattle.step.specs.parts.State.{State, KeptSet}
-use Rattle.anew.specs.parts.Deciding.{Prepared, OldKept}
+use Rattle.anew.specs.parts.Deciding.{OldKept}
+use Rattle.start.specs.parts.Preparing.{Prepared}
 
 -- the untouched vertices, flagged with 1
 abbrev pub untouched : List ℕ → List ℕ

@@ -6,8 +6,8 @@ use native.Mathlib.Omega.{arith}
 use lib.ListN.{getD}
 use Rattle.game.specs.promise.Tables.{Tables, vertices}
 use Rattle.space.specs.parts.Desk.{Desk}
-use Rattle.attract.specs.parts.Drawing.{DrawVisitable, Drawn}
-use Rattle.attract.proofs.Piles.{piled-none, piled-less}
+use Rattle.draw.specs.parts.Drawing.{DrawVisitable, Drawn}
+use Rattle.pile.proofs.Piles.{piled-none, piled-less}
 
 -- the engine has moved, and no more is left of the budget than there was
 pub record Going (budget left tail : ℕ) (tables : Tables) (ins froms winners₀ moves₀ work₀ : List ℕ) (d : Desk) (winners moves work : List ℕ) : Type 0 where

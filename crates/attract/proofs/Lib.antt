@@ -1,4 +1,1 @@
-pub mod Piles
-pub mod Draws
-pub mod Visits
 pub mod Drains

@@ -1,2 +1,0 @@
-pub mod promise
-pub mod parts

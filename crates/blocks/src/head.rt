@@ -1,9 +1,9 @@
 // What is tested before the blocks are gone through: 41, block 0's 42, 43 and 44, 1, 41.
-use crate::block::block;
-use crate::block::target_blocks;
-use crate::block::vertex_blocks;
-use crate::bytes::edges;
-use crate::bytes::vertices;
+use block::block;
+use format::bytes::edges;
+use format::bytes::vertices;
+use format::extent::target_blocks;
+use format::extent::vertex_blocks;
 use game::EDGES;
 use game::VERTICES;
 use refusal::FileFault;
@@ -16,7 +16,7 @@ ghost use Prim.Native.Nat.{_≤_};
 ghost use lib.ListN.{length};
 ghost use Rattle.refusal.specs.parts.Found.{Finds, testedSaid};
 ghost use Rattle.refusal.specs.promise.Row.{Gives};
-ghost use Rattle.blocks.specs.promise.Faults.{Fault41Short, FaultSizes, Fault41Length, headRows};
+ghost use Rattle.format.specs.promise.Faults.{Fault41Short, FaultSizes, Fault41Length, headRows};
 
 // 41: under one block.
 fn short(file: &[u8]) -> Found

@@ -8,4 +8,5 @@ pub mod Solved
 pub mod Amends
 pub mod Updated
 pub mod Table
+pub mod Refused
 pub mod ShutOut

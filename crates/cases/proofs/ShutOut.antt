@@ -1,6 +1,6 @@
 -- No such program keeps its promise: on its small game the promise allows one outcome, and the program's is another.
 use Prim.Native.Nat.{ℕ}
-use mathlib.Core.Path.{_≡_, subst, sym, ap}
+use mathlib.Core.Path.{_≡_, refl, subst, sym, ap}
 use mathlib.Core.List.{List, [], _∷_}
 use native.Mathlib.Omega.{arith}
 use lib.ListN.{getD}
@@ -12,6 +12,7 @@ use Rattle.cases.specs.promise.ShutOut.{ShutOut, WrongPrograms}
 use Rattle.cases.proofs.Answers.{answered}
 use Rattle.cases.proofs.Solved.{answer-allowed}
 use Rattle.cases.proofs.Table.{row-holds}
+use Rattle.cases.proofs.Refused.{read-255}
 
 -- what is not so of the one outcome that P allows is shut out
 shut : {X : Type 0} {P : X → Type 0} {a : X} (Q : X → Type 0) → Only P a → ¬ Q a → ShutOut P Q
@@ -46,6 +47,9 @@ wrong-programs =
           (λ q. omega arith);
       carries-move = λ lent f.
           shut _ (row-holds (updated A2 A (line (answerA .winners) (1 ∷ noMove ∷ 0 ∷ 3 ∷ [])) answerA 3) tt lent f) (λ q. omega arith);
+      follows-a-choice = λ lent f. shut _ (row-holds (updated A2 A answerA answerA 3) tt lent f) (λ q. let z : _≡_ {A = ℕ} 3 1 = cc in omega arith);
+      tests-turned = λ lent. shut _ (read-255 lent) (λ q. q);
+      writes-refused = λ lent. shut _ (read-255 lent) (λ q. q refl);
     }
   where
     solvedA : RowHolds (solved A answerA)

@@ -12,8 +12,10 @@ use Rattle.game.specs.promise.Tables.{Tables, vertices, gameOf}
 use Rattle.storage.specs.promise.Answer.{Answer, markOf, moveOf}
 use Rattle.game.proofs.WellFormed.{none-applies}
 use Rattle.winning.proofs.Reflect.{Tests, tests-map, tests-and, tests-or, tests-eq}
-use Rattle.update.specs.promise.Updating.{Input, inputOf, Redone, OldLine, Updates, Decided}
-use Rattle.update.proofs.Rows.{Free, none-of-free}
+use Rattle.update.specs.promise.Updating.{Updates, Decided}
+use Rattle.redo.specs.promise.Redone.{Redone, OldLine}
+use Rattle.inputs.specs.promise.Inputs.{Input, inputOf}
+use Rattle.inputs.proofs.Rows.{Free, none-of-free}
 use Rattle.update.proofs.Unique.{updates-unique}
 use Rattle.cases.specs.promise.Table.{updated, Fits, Outcome, outcome, Updating, zeros, RowHolds}
 use Rattle.cases.proofs.Equal.{by-test, tests-itself}

@@ -12,14 +12,14 @@ use refusal::Tested;
 use refusal::or;
 use space::fill::fill;
 use storage::Winner;
-use storage::lent::test_lent;
 use storage::marks::strange_mark;
+use tables::lent::test_lent;
 ghost use mathlib.Core.Path.{_≡_};
 ghost use Rattle.refusal.specs.parts.Found.{testedSaid};
 ghost use Rattle.game.specs.promise.Lent.{asked, lent};
 ghost use Rattle.storage.specs.promise.Lent.{claim, claimed};
 ghost use Rattle.checker.specs.promise.Checking.{Checks, verdictSaid};
-ghost use Rattle.checker.specs.parts.Judging.{PassedTo11, Judgeable, Judged};
+ghost use Rattle.checker.specs.parts.Judging.{Judgeable, JudgeableIn, Judged};
 
 // Accepted, or the first of 1 to 8 and 11 to 14 that applies.
 pub enum Verdict {
@@ -76,22 +76,22 @@ pub fn judge(
     as_verdict(or(three, lost, Kind::Claim(AnswerFault::Cycle)))
 }
 
-// The same with predecessor lists that are made for this one answer.
-fn judge_alone(
+// The same, where the game's predecessor lists are made in lent lists, whatever these hold.
+pub fn judge_in(
     owners: &[u8],
     priorities: &[u8],
     starts: &[u16],
     targets: &[u16],
     winners: &[Winner],
     moves: &[u16],
+    ins: &mut [u16],
+    froms: &mut [u16],
     work: &mut [u16],
 ) -> Verdict
-    requires { ⌜ PassedTo11 (asked owners priorities starts targets) (claim winners moves) (now work) ⌝ }
+    requires { ⌜ JudgeableIn (asked owners priorities starts targets) (claim winners moves) (now ins) (now froms) (now work) ⌝ }
     ensures { λ r. ⌜ Judged (lent owners priorities starts targets) (claimed winners moves) (now (work .entry)) (now (work .exit)) (verdictSaid r) ⌝ }
 {
-    let mut ins = [0u16; INS];
-    let mut froms = [0u16; EDGES];
-    predecessors(owners, priorities, starts, targets, &mut ins, &mut froms);
+    predecessors(owners, priorities, starts, targets, ins, froms);
     judge(
         owners,
         priorities,
@@ -99,8 +99,8 @@ fn judge_alone(
         targets,
         winners,
         moves,
-        &ins,
-        &froms,
+        ins,
+        froms,
         work,
     )
 }
@@ -129,5 +129,17 @@ pub fn check(
     if let Tested::Refused(r) = tested {
         return Verdict::Refused(r);
     }
-    judge_alone(owners, priorities, starts, targets, winners, moves, work)
+    let mut ins = [0u16; INS];
+    let mut froms = [0u16; EDGES];
+    judge_in(
+        owners,
+        priorities,
+        starts,
+        targets,
+        winners,
+        moves,
+        &mut ins,
+        &mut froms,
+        work,
+    )
 }

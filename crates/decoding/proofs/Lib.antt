@@ -4,5 +4,3 @@ pub mod Between
 pub mod Running
 pub mod Topping
 pub mod Turned
-pub mod FrameRows
-pub mod TableRows

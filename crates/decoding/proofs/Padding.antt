@@ -7,9 +7,9 @@ use native.Mathlib.Decide.{decLt}
 use lib.ListN.{length, getD, take, replicate, length-replicate, getD-replicate, length-take, List·getD-eq-default}
 use lib.Seq.{ext-getD, getD-take}
 use Rattle.game.specs.promise.Tables.{Tables, tablesOf}
-use Rattle.blocks.specs.promise.Filed.{verticesFiled, edgesFiled, filed}
-use Rattle.blocks.specs.parts.Tests.{FileSized}
-use Rattle.blocks.proofs.Lists.{owners-long, priorities-long, starts-long, targets-long}
+use Rattle.format.specs.promise.Filed.{verticesFiled, edgesFiled, filed}
+use Rattle.format.specs.parts.Tests.{FileSized}
+use Rattle.format.proofs.Lists.{owners-long, priorities-long, starts-long, targets-long}
 use Rattle.decoding.specs.promise.Holding.{Padded, Holding}
 
 pub padded-blank : (size : ℕ) → Padded size [] (replicate size 0)

@@ -6,9 +6,9 @@ use native.Mathlib.Omega.{arith}
 use lib.ListN.{getD}
 use Rattle.lists.specs.promise.Sequence.{sumTo}
 use Rattle.lists.proofs.Sums.{sum-more}
-use Rattle.blocks.specs.promise.Filed.{verticesFiled, edgesFiled, countFiled, startsFiled}
-use Rattle.blocks.specs.parts.Tests.{Summed}
-use Rattle.blocks.proofs.Lists.{start-at, span-within}
+use Rattle.format.specs.promise.Filed.{verticesFiled, edgesFiled, countFiled, startsFiled}
+use Rattle.format.specs.parts.Tests.{Summed}
+use Rattle.format.proofs.Lists.{start-at, span-within}
 use Rattle.decoding.specs.parts.Places.{Totals}
 
 -- the sum of the first v counts, of which none takes more than two bytes

@@ -6,7 +6,7 @@ use native.Mathlib.Omega.{arith}
 use native.Mathlib.Numerals.{add-one}
 use lib.ListN.{length, getD, drop, drop-of-length-le}
 use lib.Seq.{drop-cons}
-use Rattle.blocks.specs.promise.Format.{highestOf}
+use Rattle.format.specs.promise.Format.{highestOf}
 
 pub record Topping (list : List ℕ) (top v : ℕ) : Type 0 where
   pub whole : max top (highestOf (drop v list)) ≡ highestOf list

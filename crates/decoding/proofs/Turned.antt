@@ -5,8 +5,8 @@ use mathlib.Core.List.{List}
 use native.Mathlib.Omega.{arith}
 use native.Mathlib.Nat.{le-refl}
 use lib.ListN.{length, getD, set}
-use Rattle.blocks.specs.promise.Format.{highestOf, turnedOf}
-use Rattle.blocks.proofs.Turning.{highest-above, turned-plain, turned-over}
+use Rattle.format.specs.promise.Format.{highestOf, turnedOf}
+use Rattle.format.proofs.Turning.{highest-above, turned-plain, turned-over}
 use Rattle.decoding.specs.promise.Holding.{Padded}
 use Rattle.decoding.proofs.Between.{Between, between-more}
 

@@ -1,11 +1,11 @@
 // 45: the successor counts against the number of edges.
 use crate::places::count;
-use blocks::bytes::edges;
-use blocks::bytes::vertices;
+use format::bytes::edges;
+use format::bytes::vertices;
 use refusal::Found;
 ghost use Rattle.refusal.specs.parts.Found.{Finds};
-ghost use Rattle.blocks.specs.promise.Faults.{Fault45};
-ghost use Rattle.blocks.specs.parts.Tests.{FileSized};
+ghost use Rattle.format.specs.promise.Faults.{Fault45};
+ghost use Rattle.format.specs.parts.Tests.{FileSized};
 ghost use Rattle.decoding.specs.parts.Places.{Totals};
 
 // The sum of all successor counts.

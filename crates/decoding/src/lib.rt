@@ -1,7 +1,5 @@
-// A file is judged, and its tables are decoded: the rows from the header to the tables' own.
-mod counts;
-pub mod judge;
-mod load;
+// What a file says, decoded: the sum of its counts, its tables, and priorities turned by its rule.
+pub mod counts;
+pub mod fields;
 mod places;
-mod tables;
-mod turn;
+pub mod turn;

@@ -1,13 +1,13 @@
 // What is filed of a vertex and of an edge, and where it stands. The divisors are constants, so no division is made at run time.
-use blocks::block::vertex_blocks;
-use blocks::bytes::vertices;
-use blocks::bytes::word;
+use format::bytes::vertices;
+use format::bytes::word;
+use format::extent::vertex_blocks;
 ghost use mathlib.Core.Path.{_≡_};
 ghost use mathlib.Core.List.{[]};
 ghost use Prim.Native.Nat.{_<_};
 ghost use lib.ListN.{getD};
-ghost use Rattle.blocks.specs.promise.Filed.{vertexPlace, countFiled, ownersFiled, prioritiesFiled, targetsFiled};
-ghost use Rattle.blocks.specs.parts.Tests.{FileSized};
+ghost use Rattle.format.specs.promise.Filed.{vertexPlace, countFiled, ownersFiled, prioritiesFiled, targetsFiled};
+ghost use Rattle.format.specs.parts.Tests.{FileSized};
 ghost use Rattle.decoding.specs.parts.Places.{VertexPlace, EdgePlace, firstTarget};
 
 fn vertex_place(v: usize) -> usize

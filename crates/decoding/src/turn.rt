@@ -1,10 +1,10 @@
 // The rule: under rule 1 the lowest priority counts, so each is turned, the highest becoming 0.
-use blocks::bytes::rule;
-use blocks::bytes::vertices;
+use format::bytes::rule;
+use format::bytes::vertices;
 ghost use mathlib.Core.Path.{_≡_};
-ghost use Rattle.blocks.specs.promise.Format.{highestOf, turnedOf};
-ghost use Rattle.blocks.specs.promise.Filed.{ruleFiled, prioritiesFiled};
-ghost use Rattle.blocks.specs.parts.Tests.{FileSized};
+ghost use Rattle.format.specs.promise.Format.{highestOf, turnedOf};
+ghost use Rattle.format.specs.promise.Filed.{ruleFiled, prioritiesFiled};
+ghost use Rattle.format.specs.parts.Tests.{FileSized};
 ghost use Rattle.decoding.specs.promise.Holding.{Padded};
 
 fn highest(priorities: &[u8]) -> u8

@@ -1,3 +1,1 @@
-pub mod Running
-pub mod Onward
 pub mod LinedUp

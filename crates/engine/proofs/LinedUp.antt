@@ -14,13 +14,14 @@ use Rattle.lists.specs.parts.Cells.{Filled}
 use Rattle.space.specs.parts.Work.{nil}
 use Rattle.space.specs.parts.Desk.{Desk, deskOf, Laid, putFirst}
 use Rattle.space.proofs.Desks.{cells-laid, laid-first, blank-waiting}
-use Rattle.pick.specs.parts.Moves.{Fillable, FilledIn}
+use Rattle.waiting.specs.parts.Moves.{Fillable, FilledIn}
 use Rattle.levels.specs.parts.Levels.{settledOf, LevelRoom, ByPriority}
 use Rattle.levels.proofs.Floors.{priority-levelled}
 use Rattle.step.specs.parts.State.{KeptSet}
-use Rattle.attract.specs.parts.Drawing.{Drainable}
-use Rattle.attract.proofs.Piles.{piled-none}
-use Rattle.engine.specs.parts.Settling.{NoLines, Settleable, SettledTo}
+use Rattle.draw.specs.parts.Drawing.{Drainable}
+use Rattle.pile.proofs.Piles.{piled-none}
+use Rattle.engine.specs.parts.Settling.{NoLines, Settleable}
+use Rattle.rounds.specs.parts.Settled.{SettledTo}
 
 -- a blank desk: it has its cells, and nobody waits
 pub blank-laid : Laid (deskOf (replicate 6656 0))

@@ -12,13 +12,13 @@ use Rattle.game.specs.promise.Faults.{Fault5, Fault6, Fault7, tableRows}
 use Rattle.game.proofs.Sizes.{none-of-fitting}
 use Rattle.game.proofs.Starts.{none-of-placed}
 use Rattle.game.proofs.WellFormed.{well-formed}
-use Rattle.blocks.specs.promise.Format.{turnedOf, highestOf}
-use Rattle.blocks.specs.promise.Filed.{byteAt, verticesFiled, ruleFiled, vertexPlace, prioritiesFiled, startsFiled, targetsFiled, filed, tablesFiled}
-use Rattle.blocks.specs.promise.Faults.{filedRows, judgedRows}
-use Rattle.blocks.proofs.AllRows.{all-filed, all-summed}
-use Rattle.blocks.proofs.Lists.{owners-long, priorities-long, priority-at}
-use Rattle.blocks.proofs.FiledTables.{turnedTables, filed-fits, filed-placed}
-use Rattle.blocks.proofs.Turning.{highest-below, turned-long, turned-plain, turned-over, turned-past}
+use Rattle.format.specs.promise.Format.{turnedOf, highestOf}
+use Rattle.format.specs.promise.Filed.{byteAt, verticesFiled, ruleFiled, vertexPlace, prioritiesFiled, startsFiled, targetsFiled, filed, tablesFiled}
+use Rattle.format.specs.promise.Faults.{filedRows, judgedRows}
+use Rattle.format.proofs.AllRows.{all-filed, all-summed}
+use Rattle.format.proofs.Lists.{owners-long, priorities-long, priority-at}
+use Rattle.format.proofs.FiledTables.{turnedTables, filed-fits, filed-placed}
+use Rattle.format.proofs.Turning.{highest-below, turned-long, turned-plain, turned-over, turned-past}
 
 -- turned priorities stay below a bound that all priorities keep
 turned-low : (rule : ℕ) (l : List ℕ) (b : ℕ) → ((k : ℕ) → k < length l → getD l k 0 ≤ b) → (v : ℕ) → v < length l → getD (turnedOf rule l) v 0 ≤ b

@@ -1,26 +1,22 @@
 -- No row refuses a file exactly if it is the file of well-formed tables and a rule; and those are what is filed in it.
-use Prim.Native.Nat.{ℕ, _+_, _<_, _≤_}
-use mathlib.Core.Path.{_≡_, refl, sym, subst, subst₂, subst₃, _∙_}
+use Prim.Native.Nat.{ℕ, _<_, _≤_}
+use mathlib.Core.Path.{_≡_, refl, sym, subst, subst₂, subst₃}
 use mathlib.Core.Logic.{_↔_}
 use mathlib.Core.List.{List}
-use native.Mathlib.Omega.{arith}
-use native.Mathlib.Nat.{le-refl}
-use lib.ListN.{length, getD}
+use lib.ListN.{getD}
 use Rattle.refusal.specs.promise.Row.{NoPlace, None}
 use Rattle.refusal.proofs.Rows.{none-of}
-use Rattle.game.specs.promise.Tables.{tablesOf, vertices, WellFormed}
+use Rattle.game.specs.promise.Tables.{tablesOf, WellFormed}
 use Rattle.game.specs.promise.Faults.{Fault2, Fault3, Fault5, Fault6, Fault7, tableRows}
 use Rattle.game.proofs.WellFormed.{none-applies}
-use Rattle.blocks.specs.promise.Format.{Filing, vertexBlocks, targetBlocks, fileOf}
-use Rattle.lists.specs.promise.Sequence.{sumTo}
-use Rattle.blocks.specs.promise.Filed.{verticesFiled, edgesFiled, countFiled, filed}
-use Rattle.blocks.specs.promise.Faults.{FaultSizes, headRows, turnRows, filedRows, judgedRows}
-use Rattle.blocks.proofs.HeadTests.{sizes-right, head-none, head-first-block}
-use Rattle.blocks.proofs.InTurn.{turn-none}
-use Rattle.filing.proofs.RightBlock.{right-of, none-of-right}
-use Rattle.blocks.proofs.AllRows.{all-head, judged-none}
-use Rattle.filing.proofs.FileOf.{file-long}
-use Rattle.filing.proofs.Written.{vertices-are, edges-are, rule-is, right-written, owners-are, priorities-are, targets-are, sum-is, starts-are}
+use Rattle.format.specs.promise.Format.{Filing, fileOf}
+use Rattle.format.specs.promise.Filed.{filed}
+use Rattle.format.specs.promise.Faults.{filedRows, judgedRows}
+use Rattle.format.proofs.HeadTests.{head-first-block}
+use Rattle.filing.proofs.RightBlock.{right-of}
+use Rattle.format.proofs.AllRows.{all-head, judged-none}
+use Rattle.filing.proofs.Written.{vertices-are, rule-is, owners-are, priorities-are, targets-are, starts-are}
+use Rattle.filing.proofs.Framed.{Framed, framed-head, framed-turn, counts-add}
 use Rattle.filing.proofs.Accepted.{filed-well-formed}
 use Rattle.filing.proofs.Taken.{taken-is-file}
 
@@ -40,23 +36,6 @@ module _ (f : Filing) (fine : Fileable f) where
       let r = rule-is f in
       λ i. record { tables = tablesOf (o i) (p i) (s i) (t i); rule = r i }
 
-  head : None (headRows (fileOf f))
-  head =
-      let n = vertices-are f in
-      let m = edges-are f in
-      let long = file-long f in
-      head-none (fileOf f) (λ x h. omega (arith, h .short)) (none-of-right (fileOf f) 0 (right-written f (fine .rule-low) 0 (omega arith))) sizes
-      (λ x h. h .wrong (omega arith))
-    where
-      sizes : NoPlace (FaultSizes (fileOf f))
-      sizes = sizes-right (fileOf f) _ _ (sym (vertices-are f)) (sym (edges-are f)) (λ z. omega (arith, fine .tables .sound .some)) (fine .tables .sound .few) (fine .tables .edges)
-
-  turn : None (turnRows (fileOf f))
-  turn =
-      let n = vertices-are f in
-      let m = edges-are f in
-      turn-none (fileOf f) 1 (vertexBlocks (verticesFiled (fileOf f)) + targetBlocks (edgesFiled (fileOf f))) (λ i l. none-of-right (fileOf f) (1 + i) (right-written f (fine .rule-low) (1 + i) (omega arith)))
-
   values : None (filedRows (fileOf f))
   values =
       let rows = tableRows (f .tables) in
@@ -64,7 +43,7 @@ module _ (f : Filing) (fine : Fileable f) where
       let n = sym (vertices-are f) in
       let s = sym (starts-are f (fine .tables .placed)) in
       let t = sym (targets-are f) in (
-        (λ x h. h .wrong sum),
+        (λ x h. h .wrong (counts-add f (fine .tables .placed))),
         (
           subst (λ (l : List ℕ). NoPlace (Fault2 l)) (sym (owners-are f)) (none-of 2 rows none),
           (
@@ -79,14 +58,11 @@ module _ (f : Filing) (fine : Fileable f) where
           ),
         ),
       )
-    where
-      sum : sumTo (verticesFiled (fileOf f)) (countFiled (fileOf f)) ≡ edgesFiled (fileOf f)
-      sum =
-          subst (λ (k : ℕ). sumTo k (countFiled (fileOf f)) ≡ length (f .tables .targets)) (sym (vertices-are f)) (sum-is f (fine .tables .placed) (vertices (f .tables)) (le-refl _) ∙ fine .tables .placed .last) ∙
-          sym (edges-are f)
 
   pub file-is-judged : None (judgedRows (fileOf f))
-  file-is-judged = judged-none (fileOf f) head turn values
+  file-is-judged =
+      let framed : Framed f = record { some = fine .tables .sound .some; few = fine .tables .sound .few; edges = fine .tables .edges; rule-low = fine .rule-low } in
+      judged-none (fileOf f) (framed-head f framed) (framed-turn f framed) values
 
 -- no row refuses the bytes exactly if they are such a file
 pub judged-exactly-if : (file : List ℕ) → ((i : ℕ) → getD file i 0 < 256) → None (judgedRows file) ↔ ((f : Filing) × Fileable f × (file ≡ fileOf f))

@@ -5,9 +5,9 @@ use mathlib.Core.List.{List}
 use native.Mathlib.Omega.{arith}
 use native.Mathlib.Decide.{ℕ-discrete, decLt}
 use Rattle.refusal.specs.promise.Row.{NoPlace, None}
-use Rattle.blocks.specs.promise.Format.{checkOf, kindOf, usedOf}
-use Rattle.blocks.specs.promise.Filed.{byteAt, wordAt, verticesFiled, edgesFiled, ruleFiled}
-use Rattle.blocks.specs.promise.Faults.{Fault43, Fault44, number, kind, byte3, used, unused, rule, blockRows}
+use Rattle.format.specs.promise.Format.{checkOf, kindOf, usedOf}
+use Rattle.format.specs.promise.Filed.{byteAt, wordAt, verticesFiled, edgesFiled, ruleFiled}
+use Rattle.format.specs.promise.Faults.{Fault43, Fault44, number, kind, byte3, used, unused, rule, blockRows}
 
 pub record Right (file : List ℕ) (b : ℕ) : Type 0 where
   pub is-number : wordAt file (512 * b) ≡ b

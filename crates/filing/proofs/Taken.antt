@@ -9,18 +9,18 @@ use lib.Dec.{ltb}
 use lib.ListN.{length, getD}
 use lib.Seq.{ext-getD}
 use Rattle.refusal.specs.promise.Row.{None}
-use Rattle.blocks.specs.promise.Format.{pick, lowHigh, checkOf, vertexBlocks, targetBlocks, blocksOf, kindOf, usedOf, headByte, vertexByte, payloadByte, bodyByte, blockByte, fileOf}
-use Rattle.blocks.specs.promise.Filed.{byteAt, wordAt, verticesFiled, edgesFiled, vertexPlace, targetPlace, ownersFiled, targetsFiled, filed}
-use Rattle.blocks.specs.promise.Faults.{judgedRows}
-use Rattle.blocks.specs.parts.Tests.{FileSized, Summed}
+use Rattle.format.specs.promise.Format.{pick, lowHigh, checkOf, vertexBlocks, targetBlocks, blocksOf, kindOf, usedOf, headByte, vertexByte, payloadByte, bodyByte, blockByte, fileOf}
+use Rattle.format.specs.promise.Filed.{byteAt, wordAt, verticesFiled, edgesFiled, vertexPlace, targetPlace, ownersFiled, targetsFiled, filed}
+use Rattle.format.specs.promise.Faults.{judgedRows}
+use Rattle.format.specs.parts.Tests.{FileSized, Summed}
 use Rattle.lists.proofs.Sums.{sum-same}
 use Rattle.filing.proofs.FileOf.{file-long, file-at}
-use Rattle.blocks.proofs.Lists.{owners-long, targets-long, owner-at, priority-at, target-at, count-is}
-use Rattle.blocks.proofs.HeadTests.{head-first-block}
-use Rattle.blocks.proofs.InTurn.{turn-each}
-use Rattle.blocks.proofs.AllRows.{all-head, all-turn, all-sized, all-summed}
+use Rattle.format.proofs.Lists.{owners-long, targets-long, owner-at, priority-at, target-at, count-is}
+use Rattle.format.proofs.HeadTests.{head-first-block}
+use Rattle.format.proofs.InTurn.{turn-each}
+use Rattle.format.proofs.AllRows.{all-head, all-turn, all-sized, all-summed}
 use Rattle.filing.proofs.Picks.{pick-true, pick-false}
-use Rattle.blocks.proofs.BlockKinds.{used-vertex, used-target}
+use Rattle.format.proofs.BlockKinds.{used-vertex, used-target}
 use Rattle.filing.proofs.RightBlock.{Right, right-of}
 
 module _ (file : List ℕ) (bytes : (i : ℕ) → getD file i 0 < 256) where

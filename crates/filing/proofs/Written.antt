@@ -7,14 +7,14 @@ use lib.Dec.{ltb}
 use lib.ListN.{length, getD}
 use lib.Seq.{ext-getD}
 use Rattle.game.specs.promise.Tables.{vertices, Placed}
-use Rattle.blocks.specs.promise.Format.{Filing, pick, lowHigh, checkOf, vertexBlocks, blocksOf, kindOf, usedOf, vertexByte, payloadByte, bodyByte, fileOf}
+use Rattle.format.specs.promise.Format.{Filing, pick, lowHigh, checkOf, vertexBlocks, blocksOf, kindOf, usedOf, vertexByte, payloadByte, bodyByte, fileOf}
 use Rattle.lists.specs.promise.Sequence.{sumTo}
-use Rattle.blocks.specs.promise.Filed.{byteAt, verticesFiled, edgesFiled, ruleFiled, vertexPlace, targetPlace, countFiled, ownersFiled, prioritiesFiled, startsFiled, targetsFiled}
+use Rattle.format.specs.promise.Filed.{byteAt, verticesFiled, edgesFiled, ruleFiled, vertexPlace, targetPlace, countFiled, ownersFiled, prioritiesFiled, startsFiled, targetsFiled}
 use Rattle.lists.proofs.Sums.{sum-same}
-use Rattle.blocks.proofs.Lists.{owners-long, priorities-long, starts-long, targets-long, owner-at, priority-at, start-at, target-at}
+use Rattle.format.proofs.Lists.{owners-long, priorities-long, starts-long, targets-long, owner-at, priority-at, start-at, target-at}
 use Rattle.filing.proofs.FileOf.{file-byte}
 use Rattle.filing.proofs.Picks.{pick-true, pick-false}
-use Rattle.blocks.proofs.BlockKinds.{used-vertex, used-target}
+use Rattle.format.proofs.BlockKinds.{used-vertex, used-target}
 use Rattle.filing.proofs.RightBlock.{Right}
 
 -- a number from its two bytes

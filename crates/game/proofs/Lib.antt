@@ -1,4 +1,3 @@
 pub mod Starts
 pub mod Sizes
-pub mod Order
 pub mod WellFormed

@@ -1,7 +1,5 @@
 // The tables of a game: owners and priorities are bytes, starts and targets 16-bit numbers.
 pub mod buffers;
-mod faults;
-pub mod tables;
 pub mod vertex;
 
 // The most vertices and the most edges that a game may have, and what stands for none: no move, nobody.

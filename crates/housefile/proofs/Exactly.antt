@@ -7,8 +7,8 @@ use lib.ListN.{getD}
 use Rattle.refusal.specs.promise.Row.{None}
 use Rattle.game.specs.promise.Tables.{Tables, WellFormed}
 use Rattle.game.specs.promise.Lent.{Fit}
-use Rattle.blocks.specs.promise.Format.{Filing, fileOf}
-use Rattle.blocks.specs.promise.Filed.{tablesFiled}
+use Rattle.format.specs.promise.Format.{Filing, fileOf}
+use Rattle.format.specs.promise.Filed.{tablesFiled}
 use Rattle.filing.proofs.Accepted.{judged-well-formed}
 use Rattle.filing.proofs.Exactly.{Fileable, judged-exactly-if}
 use Rattle.housefile.specs.promise.Faults.{tableSizes, fileRows}

@@ -6,7 +6,7 @@ use Rattle.refusal.proofs.Rows.{none-append, none-left, none-right}
 use Rattle.game.specs.promise.Tables.{Tables}
 use Rattle.game.specs.promise.Lent.{Fit, Fault8}
 use Rattle.game.proofs.Sizes.{fit-of-none, none-of-fit}
-use Rattle.blocks.specs.promise.Faults.{judgedRows}
+use Rattle.format.specs.promise.Faults.{judgedRows}
 use Rattle.housefile.specs.promise.Faults.{tableSizes, fileRows}
 
 module _ (file : List ℕ) (lent : Tables) where

@@ -13,10 +13,10 @@ use Rattle.storage.specs.promise.Answer.{Answer, markOf, moveOf}
 use Rattle.winning.specs.promise.Answer.{noMove}
 use Rattle.winning.proofs.Solutions.{solutions-same}
 use Rattle.solver.specs.promise.Solving.{IsSolution}
-use Rattle.blocks.specs.promise.Filed.{verticesFiled, edgesFiled, tablesFiled}
-use Rattle.blocks.specs.promise.Faults.{judgedRows}
+use Rattle.format.specs.promise.Filed.{verticesFiled, edgesFiled, tablesFiled}
+use Rattle.format.specs.promise.Faults.{judgedRows}
 use Rattle.filing.proofs.Accepted.{judged-well-formed}
-use Rattle.blocks.proofs.Lists.{owners-long}
+use Rattle.format.proofs.Lists.{owners-long}
 use Rattle.lines.specs.promise.Lines.{gameLine, refusedLine}
 use Rattle.listing.specs.promise.Listing.{Lists, Agree}
 use Rattle.lines.proofs.Alike.{Alike, alike-itself, lines-alike}

@@ -16,14 +16,14 @@ use Rattle.game.proofs.Sizes.{none-of-fit}
 use Rattle.housefile.specs.declared.Header.{Header}
 use Rattle.housefile.specs.declared.Read.{Read}
 use Rattle.housefile.specs.declared.Read.the-variants.{Game, Refused}
-use Rattle.blocks.specs.promise.Filed.{verticesFiled, edgesFiled, ruleFiled, prioritiesFiled, tablesFiled}
+use Rattle.format.specs.promise.Filed.{verticesFiled, edgesFiled, ruleFiled, prioritiesFiled, tablesFiled}
 use Rattle.housefile.specs.promise.Faults.{tableSizes}
-use Rattle.blocks.specs.promise.Faults.{judgedRows}
+use Rattle.format.specs.promise.Faults.{judgedRows}
 use Rattle.housefile.specs.promise.Reading.{Taken, readSaid, Reads}
 use Rattle.decoding.specs.promise.Holding.{Padded}
 use Rattle.housefile.proofs.LentRows.{all-judged}
-use Rattle.blocks.proofs.Lists.{owners-long, priorities-long, starts-long, targets-long}
-use Rattle.blocks.proofs.Turning.{turned-long}
+use Rattle.format.proofs.Lists.{owners-long, priorities-long, starts-long, targets-long}
+use Rattle.format.proofs.Turning.{turned-long}
 use Rattle.housefile.proofs.Exactly.{read-well-formed}
 use Rattle.lines.specs.promise.Lines.{refusedLine}
 use Rattle.listing.specs.promise.Listing.{gameText, SetDown}

@@ -10,7 +10,8 @@ use Rattle.space.specs.parts.Work.{section}
 use Rattle.space.specs.parts.Desk.{Desk}
 use Rattle.pick.specs.declared.Picked.{Picked}
 use Rattle.pick.specs.declared.Picked.the-variants.{At, Nothing}
-use Rattle.pick.specs.parts.Order.{LeastOpen, AllSettled, NoneBelow, Pickable, Picks}
+use Rattle.pick.specs.parts.Order.{Pickable, Picks}
+use Rattle.waiting.specs.parts.Open.{LeastOpen, AllSettled, NoneBelow}
 use Rattle.pick.proofs.Picking.{picked-at, picked-nothing, covered-dropped, standing-dropped}
 use Rattle.levels.specs.parts.Levels.{settledOf}
 use Rattle.step.specs.parts.Stepping.{Engine, Moved, Falls}

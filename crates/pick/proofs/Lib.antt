@@ -1,9 +1,4 @@
-pub mod Stamps
-pub mod Joining
 pub mod Leaving
-pub mod Storing
-pub mod Entering
-pub mod Lining
 pub mod Picking
 pub mod Dropping
 pub mod Passing

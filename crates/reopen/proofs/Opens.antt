@@ -6,8 +6,8 @@ use native.Mathlib.Omega.{arith}
 use lib.ListN.{getD}
 use Rattle.space.specs.parts.Work.{Cell, CellSet, FlagSet}
 use Rattle.space.specs.parts.Desk.{Desk}
-use Rattle.pick.specs.parts.Lines.{Lines}
-use Rattle.pick.specs.parts.Moves.{Standable, StoodIn}
+use Rattle.waiting.specs.parts.Lines.{Lines}
+use Rattle.waiting.specs.parts.Moves.{Standable, StoodIn}
 use Rattle.reopen.specs.parts.Reopening.{OpenedIn}
 use Rattle.space.proofs.Flags.{flag-set}
 

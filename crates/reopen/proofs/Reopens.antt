@@ -14,10 +14,10 @@ use Rattle.storage.proofs.Stores.{has-room, still-stored}
 use Rattle.space.specs.parts.Work.{section, Cell}
 use Rattle.space.specs.parts.Desk.{Desk}
 use Rattle.reach.proofs.Queues.{tail-bounded}
-use Rattle.pick.specs.parts.Lines.{Covered}
-use Rattle.pick.specs.parts.Moves.{LinesOnly, LinesOf, Standable}
-use Rattle.pick.proofs.Picking.{standing-lines}
-use Rattle.pick.proofs.Storing.{lines-none, lines-more}
+use Rattle.waiting.specs.parts.Lines.{Covered}
+use Rattle.waiting.specs.parts.Moves.{LinesOnly, LinesOf, Standable}
+use Rattle.waiting.proofs.Standings.{standing-lines}
+use Rattle.waiting.proofs.Storing.{lines-none, lines-more}
 use Rattle.reopen.specs.parts.Reopening.{Opened, OpenedIn, Reopenable, Reopened}
 
 -- the first i of the queue are open again, what is not reached is as before, every open vertex waits, and low is at most `from`

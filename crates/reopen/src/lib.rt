@@ -1,14 +1,14 @@
 // Opening again what the closure has queued.
 use game::vertex::wide;
-use pick::lines::stand;
 use player::Player;
 use space::work::queued;
 use space::work::set_flag;
 use storage::Winner;
 use storage::answer::set_mark;
+use waiting::stand;
 ghost use Prim.Native.Nat.{_≤_};
 ghost use Rattle.space.specs.parts.Desk.{deskOf};
-ghost use Rattle.pick.specs.parts.Moves.{Standable};
+ghost use Rattle.waiting.specs.parts.Moves.{Standable};
 ghost use Rattle.reopen.specs.parts.Reopening.{OpenedIn, Reopenable, Reopened};
 
 fn least(a: usize, b: usize) -> usize

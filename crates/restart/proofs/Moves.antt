@@ -6,7 +6,7 @@ use lib.ListN.{length}
 use Rattle.game.specs.promise.Tables.{Tables, vertices}
 use Rattle.storage.proofs.Stores.{still-stored}
 use Rattle.space.specs.parts.Desk.{Desk}
-use Rattle.pick.proofs.Picking.{standing-lines}
+use Rattle.waiting.proofs.Standings.{standing-lines}
 use Rattle.step.specs.parts.Stepping.{Engine, Moved}
 use Rattle.restart.specs.parts.Restarting.{Restartable, RestartedIn}
 use Rattle.restart.proofs.Resets.{safe, levelled, carried}

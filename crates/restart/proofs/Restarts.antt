@@ -9,8 +9,8 @@ use Rattle.space.specs.parts.Work.{section}
 use Rattle.space.specs.parts.Desk.{Desk}
 use Rattle.reach.specs.parts.Queue.{ClosableIn, ClosedIn, ClearableIn, ClearedIn}
 use Rattle.space.proofs.Sections.{section-long}
-use Rattle.pick.specs.parts.Lines.{Lines}
-use Rattle.pick.proofs.Picking.{standing-lines}
+use Rattle.waiting.specs.parts.Lines.{Lines}
+use Rattle.waiting.proofs.Standings.{standing-lines}
 use Rattle.reopen.specs.parts.Reopening.{Reopenable, Reopened}
 use Rattle.restart.specs.parts.Restarting.{OpenSeedable, SeededAll, Firmable, Firmed, Restartable, RestartedIn}
 use Rattle.restart.proofs.Reaches.{open-reached}

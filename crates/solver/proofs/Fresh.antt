@@ -19,8 +19,10 @@ use Rattle.preds.specs.parts.Build.{Built}
 use Rattle.levels.specs.parts.Levels.{settledOf}
 use Rattle.winning.proofs.Won.{accepted-solution}
 use Rattle.solver.specs.promise.Solving.{Written}
-use Rattle.engine.specs.parts.Settling.{Settleable, SettledTo}
-use Rattle.solver.specs.parts.Starting.{Startable, AllOpen, Answerable}
+use Rattle.engine.specs.parts.Settling.{Settleable}
+use Rattle.rounds.specs.parts.Settled.{SettledTo}
+use Rattle.solver.specs.parts.Answering.{Answerable}
+use Rattle.start.specs.parts.Opening.{Startable, AllOpen}
 
 module _ (tables : Tables) (lent : Lent) (a : Answerable tables lent) where
   level : length (tables .priorities) ≡ vertices tables

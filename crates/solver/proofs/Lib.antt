@@ -1,3 +1,2 @@
-pub mod Opening
 pub mod Fresh
 pub mod Unique

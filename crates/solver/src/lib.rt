@@ -1,20 +1,18 @@
 // The solver: winners and moves of a game, by fixpoint iteration with justifications, one vertex at a time.
-use crate::start::open_all;
-use engine::settle::settle;
+use engine::settle;
 use game::EDGES;
 use preds::INS;
 use preds::build::predecessors;
 use refusal::Refusal;
 use refusal::Tested;
 use space::fill::fill;
+use start::fresh::open_all;
 use storage::Winner;
-use storage::lent::test_lent;
+use tables::lent::test_lent;
 ghost use Rattle.game.specs.promise.Lent.{asked, lent};
 ghost use Rattle.storage.specs.promise.Lent.{buffers, given, left};
 ghost use Rattle.solver.specs.promise.Solving.{Solves, Written, solvedSaid};
-ghost use Rattle.solver.specs.parts.Starting.{Answerable};
-
-mod start;
+ghost use Rattle.solver.specs.parts.Answering.{Answerable};
 
 // Solved, or the first of 1 to 8 that applies.
 pub enum Solved {

@@ -11,12 +11,12 @@ use Rattle.justification.specs.parts.Safe.{Eligible}
 use Rattle.justification.proofs.Eligible.{least-eligible}
 use Rattle.space.specs.parts.Work.{section}
 use Rattle.space.specs.parts.Desk.{Desk}
-use Rattle.pick.specs.parts.Order.{LeastOpen, NoneBelow}
+use Rattle.waiting.specs.parts.Open.{LeastOpen, NoneBelow}
 use Rattle.levels.specs.parts.Levels.{settledOf}
 use Rattle.levels.proofs.Flags.{flag-settled, settled-flag}
 use Rattle.line.specs.parts.Testing.{Testable, TestedBy}
 use Rattle.step.specs.parts.Stepping.{Engine, Fitting, Moved, Falls}
-use Rattle.step.specs.parts.Turning.{SteppedIn}
+use Rattle.step.specs.parts.Outcome.{SteppedIn}
 use Rattle.step.proofs.Steps.{stepped}
 
 -- the engine, and an open vertex of least priority

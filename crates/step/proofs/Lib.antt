@@ -1,4 +1,3 @@
-pub mod Turns
 pub mod Settling
 pub mod Supports
 pub mod Carry

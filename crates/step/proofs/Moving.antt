@@ -5,8 +5,8 @@ use mathlib.Core.List.{List}
 use Rattle.game.specs.promise.Tables.{Tables, vertices}
 use Rattle.space.specs.parts.Work.{section}
 use Rattle.space.specs.parts.Desk.{Desk}
-use Rattle.pick.specs.parts.Lines.{Covered}
-use Rattle.pick.specs.parts.Moves.{Standing}
+use Rattle.waiting.specs.parts.Lines.{Covered}
+use Rattle.waiting.specs.parts.Moves.{Standing}
 use Rattle.step.specs.parts.Stepping.{Engine, Moved}
 use Rattle.step.proofs.Carry.{carried-none, carried-more}
 

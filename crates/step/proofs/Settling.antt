@@ -9,9 +9,10 @@ use Rattle.player.specs.promise.Player.{parityOf}
 use Rattle.storage.specs.parts.Answers.{MoveSet}
 use Rattle.space.specs.parts.Desk.{Desk}
 use Rattle.levels.specs.parts.Levels.{LevelSet, LevelsOnly}
-use Rattle.step.specs.parts.Keeping.{Keepable}
+use Rattle.turn.specs.parts.Keeping.{Keepable}
 use Rattle.space.specs.parts.Work.{FlagSet}
-use Rattle.step.specs.parts.Turning.{Turnable, TurnedIn, SteppedIn}
+use Rattle.turn.specs.parts.Turning.{Turnable, TurnedIn}
+use Rattle.step.specs.parts.Outcome.{SteppedIn}
 
 module _ {n v : ℕ} {priorities ins froms : List ℕ} {d : Desk} {winners moves work : List ℕ} (p : Turnable n v priorities ins froms d winners moves work) where
   pub settlable : Keepable v d moves work

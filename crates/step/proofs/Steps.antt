@@ -21,14 +21,15 @@ use Rattle.justification.proofs.Started.{never-reopened}
 use Rattle.lists.specs.parts.Cells.{Filled}
 use Rattle.space.specs.parts.Work.{section}
 use Rattle.space.specs.parts.Desk.{Desk, Laid}
-use Rattle.pick.specs.parts.Lines.{Covered}
-use Rattle.pick.specs.parts.Moves.{LinesOf}
-use Rattle.pick.proofs.Picking.{standing-lines}
+use Rattle.waiting.specs.parts.Lines.{Covered}
+use Rattle.waiting.specs.parts.Moves.{LinesOf}
+use Rattle.waiting.proofs.Standings.{standing-lines}
 use Rattle.levels.specs.parts.Levels.{settledOf, levelOf}
 use Rattle.levels.proofs.Flags.{flag-settled, settled-flag, same-settled}
 use Rattle.step.specs.parts.State.{KeptSet}
 use Rattle.step.specs.parts.Stepping.{Engine, Fitting, Moved, Falls}
-use Rattle.step.specs.parts.Turning.{Turnable, KeptIn, TurnedIn, SteppedIn}
+use Rattle.turn.specs.parts.Turning.{Turnable, TurnedIn}
+use Rattle.step.specs.parts.Outcome.{KeptIn, SteppedIn}
 use Rattle.step.proofs.Supports.{leaning}
 use Rattle.step.proofs.Carry.{carried-same}
 

@@ -16,7 +16,7 @@ use Rattle.reach.specs.parts.Closure.{Allowed}
 use Rattle.space.specs.parts.Work.{section}
 use Rattle.levels.specs.parts.Levels.{settledOf}
 use Rattle.levels.proofs.Flags.{flag-settled, settled-flag}
-use Rattle.step.specs.parts.Turning.{Reached}
+use Rattle.turn.specs.parts.Turning.{Reached}
 
 module _
     (tables : Tables) (winners moves work ins froms : List ℕ)

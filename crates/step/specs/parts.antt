@@ -1,4 +1,3 @@
 pub mod State
 pub mod Stepping
-pub mod Keeping
-pub mod Turning
+pub mod Outcome

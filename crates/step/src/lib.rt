@@ -1,15 +1,13 @@
 // One step of the method: an open vertex gets a line and is settled with it, or turned to the opponent.
-use crate::keep::keep;
-use crate::turn::turn;
 use line::Line;
 use player::Player;
 use storage::Winner;
+use turn::keep::keep;
+use turn::turn;
 ghost use lib.ListN.{length};
 ghost use Rattle.space.specs.parts.Desk.{deskOf};
-ghost use Rattle.step.specs.parts.Turning.{Turnable, SteppedIn};
-
-pub mod keep;
-pub mod turn;
+ghost use Rattle.turn.specs.parts.Turning.{Turnable};
+ghost use Rattle.step.specs.parts.Outcome.{SteppedIn};
 
 // v, which is open, gets the line. If nothing below `low` is open before, nothing below the result is afterwards.
 pub fn step(

@@ -7,13 +7,13 @@ use native.Mathlib.Omega.{arith}
 use lib.ListN.{getD}
 use Rattle.space.specs.parts.Work.{nil, section, Cell}
 use Rattle.space.specs.parts.Desk.{Desk, Laid}
-use Rattle.pick.specs.parts.Lines.{Waits}
-use Rattle.pick.specs.parts.Moves.{LinesOf, Standing}
+use Rattle.waiting.specs.parts.Lines.{Waits}
+use Rattle.waiting.specs.parts.Moves.{LinesOf, Standing}
 use Rattle.pick.specs.parts.Order.{Frontable, Fronted}
 use Rattle.pick.proofs.Picking.{standing-dropped}
-use Rattle.pick.proofs.Stamps.{lines-agree}
-use Rattle.attract.specs.parts.Pile.{Piled}
-use Rattle.attract.proofs.Piles.{piled-none}
+use Rattle.waiting.proofs.Stamps.{lines-agree}
+use Rattle.pile.specs.parts.Pile.{Piled}
+use Rattle.pile.proofs.Piles.{piled-none}
 use Rattle.sweep.specs.parts.Gathering.{Lookable, SameWait, Looked, Gathered}
 use Rattle.sweep.proofs.Looking.{same-none, same-more}
 

@@ -9,7 +9,7 @@ use lib.ListN.{getD, set}
 use lib.Seq.{getD-set-same, getD-set-other}
 use Rattle.space.specs.parts.Desk.{Desk, Laid, putWaits}
 use Rattle.space.proofs.Desks.{laid-waits}
-use Rattle.attract.specs.parts.Pile.{Pushable, PushedOn}
+use Rattle.pile.specs.parts.Pile.{Pushable, PushedOn}
 use Rattle.sweep.specs.parts.Gathering.{Lookable, SameWait, Looked}
 
 pub same-none : {waiting : List ℕ} → SameWait waiting waiting

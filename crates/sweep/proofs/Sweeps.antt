@@ -4,10 +4,10 @@ use mathlib.Core.List.{List}
 use Rattle.game.specs.promise.Tables.{Tables, vertices}
 use Rattle.space.specs.parts.Desk.{Desk}
 use Rattle.pick.specs.parts.Order.{Frontable}
-use Rattle.pick.proofs.Picking.{standing-lines}
+use Rattle.waiting.proofs.Standings.{standing-lines}
 use Rattle.step.proofs.Moving.{moved-more, moved-lines}
-use Rattle.attract.specs.parts.Drawing.{Drainable, Drawn}
-use Rattle.attract.proofs.Visits.{drawn-more}
+use Rattle.draw.specs.parts.Drawing.{Drainable, Drawn}
+use Rattle.draw.proofs.Visits.{drawn-more}
 use Rattle.sweep.specs.parts.Gathering.{Gathered}
 
 module _ {tables : Tables} {ins froms winners₀ moves₀ work₀ : List ℕ} {d : Desk} {winners moves work : List ℕ} (x : Drawn 0 tables ins froms winners₀ moves₀ work₀ d winners moves work) where

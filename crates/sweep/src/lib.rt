@@ -1,11 +1,11 @@
 // Attracting from what has been opened since the last sweep, from the highest priority down.
-use attract::drain::Left;
-use attract::drain::drain;
-use attract::pile::larger;
-use attract::pile::push;
+use attract::Left;
+use attract::drain;
 use game::NONE;
 use game::vertex::wide;
 use pick::front;
+use pile::larger;
+use pile::push;
 use space::desk::first;
 use space::desk::set_waits;
 use space::desk::waits;
@@ -16,7 +16,7 @@ ghost use Prim.Native.Nat.{_≤_};
 ghost use Rattle.game.specs.promise.Lent.{asked, lent};
 ghost use Rattle.space.specs.parts.Desk.{Laid, deskOf};
 ghost use Rattle.pick.specs.parts.Order.{Frontable};
-ghost use Rattle.attract.specs.parts.Drawing.{Drainable, Drawn};
+ghost use Rattle.draw.specs.parts.Drawing.{Drainable, Drawn};
 ghost use Rattle.sweep.specs.parts.Gathering.{Gathered, Lookable, Looked};
 
 // x, who stands in a line, goes on the pile if he is new there and open; he is new no longer.

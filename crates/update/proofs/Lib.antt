@@ -1,5 +1,2 @@
-pub mod SecondKinds
-pub mod Rows
 pub mod Unique
-pub mod Redoings
 pub mod Outcomes

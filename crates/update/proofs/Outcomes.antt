@@ -18,18 +18,17 @@ use Rattle.storage.proofs.Zeros.{zeroed-more}
 use Rattle.game.proofs.WellFormed.{well-formed}
 use Rattle.winning.specs.promise.Faults.{Accepted}
 use Rattle.winning.proofs.Accepted.{accepted-right}
-use Rattle.preds.specs.parts.Preds.{Preds}
-use Rattle.preds.specs.parts.Build.{Buildable}
 use Rattle.checker.specs.declared.Verdict.{Verdict}
 use Rattle.checker.specs.declared.Verdict.the-variants as verdicts
-use Rattle.checker.specs.parts.Judging.{Judgeable, Judged}
+use Rattle.checker.specs.parts.Judging.{JudgeableIn, Judged}
 use Rattle.checker.specs.promise.Checking.{verdictSaid, judgeRows}
 use Rattle.checker.proofs.Verdicts.{high}
 use Rattle.update.specs.declared.Updated.{Updated}
 use Rattle.update.specs.declared.Updated.the-variants as updated
-use Rattle.update.specs.promise.Updating.{Input, testRows, Updates, updatedSaid}
-use Rattle.update.specs.parts.Redoing.{Redoable, RedoneTo}
-use Rattle.update.proofs.Rows.{Free, free-of-none, not-judging}
+use Rattle.update.specs.promise.Updating.{Updates, updatedSaid}
+use Rattle.inputs.specs.promise.Inputs.{Input, testRows}
+use Rattle.redo.specs.parts.Redoing.{Redoable, RedoneTo}
+use Rattle.inputs.proofs.Rows.{Free, free-of-none, not-judging}
 
 -- what is lent with another work space
 abbrev pub withWork : Lent → List ℕ → Lent
@@ -53,26 +52,17 @@ module _ (i : Input) (l : Lent) where
     formed : WellFormed (i .first)
     formed = well-formed (i .first) bytes (free .first)
 
-    pub building-asks : {ins froms : List ℕ} → length ins ≡ 2049 → length froms ≡ 16384 → Buildable (i .first) ins froms
-    building-asks x y = record { well-formed = formed; ins-long = x; froms-long = y }
-
-    pub judging-asks : {ins froms : List ℕ} → Preds (gameOf (i .first)) ins froms → Judgeable (i .first) (i .old) ins froms (l .work)
-    judging-asks p =
+    pub judging-asks : {ins froms : List ℕ} → length ins ≡ 2049 → length froms ≡ 16384 → JudgeableIn (i .first) (i .old) ins froms (l .work)
+    judging-asks x y =
         record {
           passed =
               record {
                 answered = record { well-formed = formed; stored = record { cells = free .fit .0 }; moves-long = free .fit .1 .0 };
                 work-long = free .fit .1 .1 .1 .1 .0;
               };
-          preds = p;
+          ins-long = x;
+          froms-long = y;
         }
-
-    module _ (bytes2 : (v : ℕ) → getD (i .second .priorities) v 0 < 256) where
-      second : WellFormed (i .second)
-      second = well-formed (i .second) bytes2 (free .second)
-
-      pub building-asks-2 : {ins froms : List ℕ} → length ins ≡ 2049 → length froms ≡ 16384 → Buildable (i .second) ins froms
-      building-asks-2 x y = record { well-formed = second; ins-long = x; froms-long = y }
 
     module _ {v : Verdict} {work₁ : List ℕ} (j : Judged (i .first) (i .old) (l .work) work₁ (verdictSaid v)) where
       -- a refusal by the checker leaves the work space all zero
@@ -91,15 +81,16 @@ module _ (i : Input) (l : Lent) where
           let n = subst (λ (v : Verdict). Gives (judgeRows (i .first) (i .old)) (verdictSaid v)) e (j .gives) in
           record { players = marks-players (n .0); none = n .1 }
 
-      pub redoing-asks : {ins froms : List ℕ} → ((v : ℕ) → getD (i .second .priorities) v 0 < 256) → v ≡ verdicts.Accepted → Preds (gameOf (i .second)) ins froms → Redoable i (withWork l work₁) ins froms
-      redoing-asks bytes2 e p =
+      pub redoing-asks : {ins froms : List ℕ} → ((v : ℕ) → getD (i .second .priorities) v 0 < 256) → v ≡ verdicts.Accepted → length ins ≡ 2049 → length froms ≡ 16384 → Redoable i (withWork l work₁) ins froms
+      redoing-asks bytes2 e x y =
           let f = free .fit in
           record {
             paired = record { first = formed; second = well-formed (i .second) bytes2 (free .second); size = free .size };
             fit = (f .0, (f .1 .0, (f .1 .1 .0, (f .1 .1 .1 .0, (j .zeroed .long ∙ f .1 .1 .1 .1 .0, tt)))));
             accepted = accepted e;
             blank = record { all = j .zeroed .zero };
-            preds = p;
+            ins-long = x;
+            froms-long = y;
           }
 
       pub done : {after : Lent} {count : ℕ} → v ≡ verdicts.Accepted → RedoneTo i (withWork l work₁) after count → Updates i l after (updatedSaid (updated.Done count))

@@ -20,9 +20,11 @@ use Rattle.checker.specs.promise.Checking.{IsRight, judgeRows}
 use Rattle.solver.proofs.Unique.{SameLines, solutions-lines}
 use Rattle.update.specs.declared.Updated.{Updated}
 use Rattle.update.specs.declared.Updated.the-variants.{Done, Refused}
-use Rattle.update.specs.promise.Updating.{Input, updateSizes, testRows, updateRows, updatedSaid, Redone, Decided, Undecided, Updates}
+use Rattle.update.specs.promise.Updating.{updateRows, updatedSaid, Decided, Undecided, Updates}
+use Rattle.redo.specs.promise.Redone.{Redone}
+use Rattle.inputs.specs.promise.Inputs.{Input, updateSizes, testRows}
 use Rattle.amend.proofs.Counts.{count-unique}
-use Rattle.update.proofs.Rows.{free-of-none, none-of-free}
+use Rattle.inputs.proofs.Rows.{free-of-none, none-of-free}
 
 -- what is said determines the answer
 said-unique : (a b : Updated) → updatedSaid a ≡ updatedSaid b → a ≡ b

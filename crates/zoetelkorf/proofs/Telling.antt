@@ -9,9 +9,9 @@ use Rattle.game.specs.promise.Tables.{Tables}
 use Rattle.housefile.specs.declared.Header.{Header}
 use Rattle.housefile.specs.declared.Read.{Read}
 use Rattle.housefile.specs.declared.Read.the-variants.{Game}
-use Rattle.blocks.specs.promise.Filed.{verticesFiled, edgesFiled}
+use Rattle.format.specs.promise.Filed.{verticesFiled, edgesFiled}
 use Rattle.housefile.specs.promise.Reading.{readSaid, Reads}
-use Rattle.zoetelkorf.specs.promise.Calls.{numberSaid, valueSaid, Told}
+use Rattle.told.specs.promise.Told.{numberSaid, valueSaid, Told}
 
 module _ (A : Type 0) (said : A → Said) (P : Said → Type 0) where
   -- an answer whose case is known

@@ -9,10 +9,11 @@ use Rattle.storage.specs.promise.Answer.{Answer}
 use Rattle.storage.specs.promise.Lent.{Lent}
 use Rattle.checker.proofs.Unique.{checks-unique}
 use Rattle.solver.proofs.Unique.{Same, solves-unique}
-use Rattle.update.specs.promise.Updating.{Input}
+use Rattle.inputs.specs.promise.Inputs.{Input}
 use Rattle.update.proofs.Unique.{Alike, updates-unique}
 use Rattle.housefile.proofs.Determined.{determined}
-use Rattle.zoetelkorf.specs.promise.Calls.{numberSaid, valueSaid, Told, ChecksBy, SolvesBy, UpdatesBy, ReadsBy}
+use Rattle.zoetelkorf.specs.promise.Calls.{ChecksBy, SolvesBy, UpdatesBy, ReadsBy}
+use Rattle.told.specs.promise.Told.{numberSaid, valueSaid, Told}
 
 -- what is said alike is told alike
 told-unique : {P Q : Said → Type 0} {k x l y : ℕ} (a : Told P k x) (b : Told Q l y) → a .said ≡ b .said → (k ≡ l) × (x ≡ y)

@@ -3,28 +3,17 @@ use checker::Verdict;
 use checker::check;
 use housefile::Read;
 use housefile::reader::read;
-use refusal::Refusal;
-use refusal::number;
 use solver::Solved;
 use solver::solve;
 use storage::Winner;
+use told::refused;
+use told::sizes;
 use update::Updated;
 use update::update;
 ghost use Rattle.game.specs.promise.Lent.{lent, written};
 ghost use Rattle.storage.specs.promise.Lent.{claimed, given, left};
-ghost use Rattle.update.specs.promise.Updating.{inputOf};
+ghost use Rattle.inputs.specs.promise.Inputs.{inputOf};
 ghost use Rattle.zoetelkorf.specs.promise.Calls.{ChecksBy, SolvesBy, UpdatesBy, ReadsBy};
-ghost use Rattle.zoetelkorf.specs.parts.Handing.{Gave};
-
-// A refusal's number, with its place as the value.
-fn refused(r: Refusal, value: &mut u64) -> u64
-    ensures { λ n. ⌜ Gave r n (now (value .exit)) ⌝ }
-{
-    let kind = r.kind;
-    let place = r.place;
-    *value = place as u64;
-    number(kind)
-}
 
 #[no_mangle]
 pub extern "C" fn zoetelkorf_check(
@@ -126,9 +115,7 @@ pub extern "C" fn zoetelkorf_read(
     match taken {
         Read::Refused(r) => refused(r, value),
         Read::Game(h) => {
-            let edges = h.edges as u64;
-            let vertices = h.vertices as u64;
-            *value = edges * 65536 + vertices;
+            *value = sizes(h.vertices, h.edges);
             0
         }
     }

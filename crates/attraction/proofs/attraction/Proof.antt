@@ -6,7 +6,7 @@ use lib.ListN.{length}
 use native.Mathlib.Omega.{arith}
 use Rattle.game.specs.promise.Tables.{tablesOf}
 use Rattle.space.specs.parts.Desk.{deskOf}
-use Rattle.attract.proofs.Visits.{drawn-same, drawn-more}
+use Rattle.draw.proofs.Visits.{drawn-same, drawn-more}
 use Rattle.attract.proofs.Drains.{Going}
 use Rattle.orders.proofs.Running.{pickable}
 use Rattle.attraction.proofs.Attracting.{picked-probable, attracted-all, spends}

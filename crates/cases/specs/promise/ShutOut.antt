@@ -5,9 +5,12 @@ use mathlib.Core.Logic.{_≢_}
 use mathlib.Core.List.{List, [], _∷_}
 use lib.ListN.{length, getD}
 use Rattle.refusal.specs.promise.Row.{Said, success, refused}
+use Rattle.game.specs.promise.Tables.{Tables}
 use Rattle.storage.specs.promise.Lent.{Lent}
 use Rattle.winning.specs.promise.Answer.{noMove}
-use Rattle.cases.specs.promise.Games.{A, B, game8, game9, A2, chain, chain1, free, free1}
+use Rattle.format.specs.promise.Format.{fileOf}
+use Rattle.housefile.specs.promise.Reading.{Reads}
+use Rattle.cases.specs.promise.Games.{A, B, game8, game9, loopOf, A2, chain, chain1, free, free1}
 use Rattle.cases.specs.promise.Table.{line, answerA, Fits, outcome, Solving, Checking, Updating, zeros}
 
 -- no outcome that P allows is one of Q
@@ -23,6 +26,23 @@ IsRefusal (refused number place) = Unit {0}
 abbrev pub IsSuccess : Said → Type 0
 IsSuccess (success values) = Unit {0}
 IsSuccess (refused number place) = ⊥
+
+-- what comes out of the reader: what is said, and what the lent tables hold
+pub record Loaded : Type 0 where
+  pub said : Said
+  pub left : Tables
+
+-- such an outcome, in this order
+abbrev pub loaded : Said → Tables → Loaded
+loaded said left = record { said = said; left = left }
+
+-- the promise of `read` on this file and what is lent
+abbrev pub Reading : List ℕ → Tables → Loaded → Type 0
+Reading file lent o = Reads file lent (o .left) (o .said)
+
+-- the file of a loop with priority 255 under rule 1, which would turn it to 0
+abbrev pub file255 : List ℕ
+file255 = fileOf (record { tables = loopOf 255; rule = 1 })
 
 -- each wrong program, shut out
 pub record WrongPrograms : Type 0 where
@@ -65,3 +85,8 @@ pub record WrongPrograms : Type 0 where
   -- a move carried over because the winner stayed: A2 to A, old move 1 at 0
   pub carries-move :
       (lent : Lent) → Fits 4 lent → ShutOut (Updating A2 A (line (answerA .winners) (1 ∷ noMove ∷ 0 ∷ 3 ∷ [])) lent) (λ o. getD (o .left .answer .moves) 0 0 ≡ 1)
+  -- an update that follows the old move when it marks what the amendment reaches: A2 to A, where 0 has the other move
+  pub follows-a-choice : (lent : Lent) → Fits 4 lent → ShutOut (Updating A2 A answerA lent) (λ o. o .said ≡ success (1 ∷ []))
+  -- a reader that tests priorities once they are turned, and one that writes tables before a file is refused
+  pub tests-turned : (lent : Tables) → ShutOut (Reading file255 lent) (λ o. IsSuccess (o .said))
+  pub writes-refused : (lent : Tables) → ShutOut (Reading file255 lent) (λ o. o .left ≢ lent)

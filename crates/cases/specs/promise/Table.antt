@@ -13,7 +13,8 @@ use Rattle.storage.specs.promise.Lent.{Lent, lentSizes}
 use Rattle.winning.specs.promise.Answer.{noMove}
 use Rattle.checker.specs.promise.Checking.{Checks}
 use Rattle.solver.specs.promise.Solving.{Solves}
-use Rattle.update.specs.promise.Updating.{inputOf, Updates}
+use Rattle.update.specs.promise.Updating.{Updates}
+use Rattle.inputs.specs.promise.Inputs.{inputOf}
 use Rattle.cases.specs.promise.Games.{A, B, game8, game9, loopOf}
 
 -- a row: what is handed in, and what must come out

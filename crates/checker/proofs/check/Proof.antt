@@ -1,5 +1,6 @@
 -- `checker::check` meets its contract: 1 to 8, and then what is judged (Verdicts).
 -- Assumes nothing.
+use mathlib.Core.Path.{refl}
 use native.Mathlib.Omega.{arith}
 use denote.Ref.{now}
 use Rattle.refusal.specs.promise.Row.{None}
@@ -43,25 +44,36 @@ returns c = checked-before _ _ _ (c .before .tested .given .1) (said (c .before 
 enum-told : tie.Need-enum-told
 enum-told c = search needs
 
-judge-alone-requires : tie.Need-judge-alone-requires
-judge-alone-requires c κs =
-    let n = none (c .before) in
+slice-aggregate-judge-in : tie.Need-slice-aggregate-judge-in
+slice-aggregate-judge-in c = search needs
+
+slice-aggregate-judge-in-2 : tie.Need-slice-aggregate-judge-in-2
+slice-aggregate-judge-in-2 c = search needs
+
+judge-in-requires : tie.Need-judge-in-requires
+judge-in-requires c κs =
+    let n = none (c .before .before .before) in
     let f = lent-fit _ _ _ _ n in
     record {
-      answered =
+      passed =
           record {
-            well-formed = lent-formed _ _ _ _ (λ v. omega (arith, c .before .before .before .before .before .before .before .before .before .shared-slice-known2 .given v)) n;
-            stored = record { cells = f .0 };
-            moves-long = f .1 .0;
+            answered =
+                record {
+                  well-formed = lent-formed _ _ _ _ (λ v. omega (arith, c .before .before .before .before .before .before .before .before .before .before .before .shared-slice-known2 .given v)) n;
+                  stored = record { cells = f .0 };
+                  moves-long = f .1 .0;
+                };
+            work-long = f .1 .1 .0;
           };
-      work-long = f .1 .1 .0;
+      ins-long = refl;
+      froms-long = refl;
     }
 
 same-length : tie.Need-same-length
 same-length c = search needs
 
 returns-2 : tie.Need-returns-2
-returns-2 c = let j = c .before .before in checked-judged _ _ _ _ (j .judge-alone .result) (none (c .before .before .before .before)) (j .judge-alone .ensures)
+returns-2 c = let j = c .before .before .before .before in checked-judged _ _ _ _ (j .judge-in .result) (none (c .before .before .before .before .before .before .before .before)) (j .judge-in .ensures)
 
 pub check-spec : {M : Type 1} → statement M
 check-spec =
@@ -71,6 +83,8 @@ check-spec =
     enum-known-tested
     returns
     enum-told
-    judge-alone-requires
+    slice-aggregate-judge-in
+    slice-aggregate-judge-in-2
+    judge-in-requires
     same-length
     returns-2)

@@ -22,7 +22,13 @@ module _ (t : Tables) (a : Answer) where
     pub passed : PassedTo11 work
     pub preds : Preds (gameOf t) ins froms
 
-  -- what it gives: the first of 11 to 14 that applies, and the work space all zero
+  -- what `judge_in` asks: room for them
+  pub record JudgeableIn (ins froms work : List ℕ) : Type 0 where
+    pub passed : PassedTo11 work
+    pub ins-long : length ins ≡ 2049
+    pub froms-long : length froms ≡ 16384
+
+  -- what they give: the first of 11 to 14 that applies, and the work space all zero
   pub record Judged (work work′ : List ℕ) (said : Said) : Type 0 where
     pub gives : Gives (judgeRows t a) said
     pub zeroed : Zeroed work work′

@@ -3,9 +3,9 @@ use Prim.Native.Nat.{ℕ, _+_, _<_}
 use mathlib.Core.Path.{_≡_}
 use mathlib.Core.List.{List}
 use Rattle.lists.specs.promise.Sequence.{sumTo}
-use Rattle.blocks.specs.promise.Format.{vertexBlocks}
-use Rattle.blocks.specs.promise.Filed.{verticesFiled, edgesFiled, countFiled}
-use Rattle.blocks.specs.parts.Tests.{FileSized}
+use Rattle.format.specs.promise.Format.{vertexBlocks}
+use Rattle.format.specs.promise.Filed.{verticesFiled, edgesFiled, countFiled}
+use Rattle.format.specs.parts.Tests.{FileSized}
 
 -- v is a vertex of the file
 pub record VertexPlace (file : List ℕ) (v : ℕ) : Type 0 where

@@ -5,7 +5,7 @@ use lib.ListN.{length}
 use Rattle.refusal.specs.promise.Row.{Row, row}
 use Rattle.game.specs.promise.Tables.{Tables}
 use Rattle.game.specs.promise.Lent.{Sized, sized, Fault8}
-use Rattle.blocks.specs.promise.Faults.{headRows, turnRows, filedRows}
+use Rattle.format.specs.promise.Faults.{headRows, turnRows, filedRows}
 
 -- how long the lent tables are, and their fixed lengths
 abbrev pub lentLengths : (owners priorities starts targets : ℕ) → List Sized

@@ -7,7 +7,7 @@ use Rattle.refusal.specs.promise.Number.{saidOf}
 use Rattle.game.specs.promise.Tables.{Tables}
 use Rattle.housefile.specs.declared.Read.{Read}
 use Rattle.housefile.specs.declared.Read.the-variants.{Game, Refused}
-use Rattle.blocks.specs.promise.Filed.{verticesFiled, edgesFiled, tablesFiled}
+use Rattle.format.specs.promise.Filed.{verticesFiled, edgesFiled, tablesFiled}
 use Rattle.decoding.specs.promise.Holding.{Holding}
 use Rattle.housefile.specs.promise.Faults.{fileRows}
 

@@ -9,8 +9,8 @@ use Rattle.game.specs.promise.Tables.{Tables}
 use Rattle.storage.specs.promise.Answer.{Answer, moveOf}
 use Rattle.winning.specs.promise.Answer.{noMove}
 use Rattle.solver.specs.promise.Solving.{IsSolution}
-use Rattle.blocks.specs.promise.Filed.{verticesFiled, edgesFiled, tablesFiled}
-use Rattle.blocks.specs.promise.Faults.{judgedRows}
+use Rattle.format.specs.promise.Filed.{verticesFiled, edgesFiled, tablesFiled}
+use Rattle.format.specs.promise.Faults.{judgedRows}
 use Rattle.lines.specs.promise.Lines.{gameLines, refusedLine}
 
 -- the lines of a game of n vertices and m edges with an answer

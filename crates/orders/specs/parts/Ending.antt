@@ -4,7 +4,7 @@ use mathlib.Core.List.{List}
 use Rattle.game.specs.promise.Tables.{Tables, vertices}
 use Rattle.space.specs.parts.Work.{section}
 use Rattle.space.specs.parts.Desk.{Desk}
-use Rattle.pick.specs.parts.Order.{AllSettled}
+use Rattle.waiting.specs.parts.Open.{AllSettled}
 use Rattle.step.specs.parts.Stepping.{Moved, Falls}
 use Rattle.orders.specs.declared.Ended.{Ended}
 use Rattle.orders.specs.declared.Ended.the-variants.{Done, Spent}

@@ -10,8 +10,8 @@ use Rattle.storage.specs.parts.Answers.{Stored}
 use Rattle.space.specs.parts.Work.{section}
 use Rattle.reach.specs.parts.Closure.{Queued}
 use Rattle.space.specs.parts.Desk.{Desk}
-use Rattle.pick.specs.parts.Lines.{Covered}
-use Rattle.pick.specs.parts.Moves.{LinesOnly, LinesOf, Standing}
+use Rattle.waiting.specs.parts.Lines.{Covered}
+use Rattle.waiting.specs.parts.Moves.{LinesOnly, LinesOf, Standing}
 
 -- u is open with the mark of its own priority's parity
 pub record Opened (priorities winners flags : List ℕ) (u : ℕ) : Type 0 where

@@ -12,8 +12,8 @@ use Rattle.space.specs.parts.Work.{section, Beside}
 use Rattle.space.specs.parts.Desk.{Desk, Laid}
 use Rattle.preds.specs.parts.Preds.{Backward}
 use Rattle.reach.specs.parts.Closure.{Allowed, Queued}
-use Rattle.pick.specs.parts.Lines.{Covered}
-use Rattle.pick.specs.parts.Moves.{LinesOf, Standing}
+use Rattle.waiting.specs.parts.Lines.{Covered}
+use Rattle.waiting.specs.parts.Moves.{LinesOf, Standing}
 use Rattle.levels.specs.parts.Levels.{levelOf, LevelsOnly}
 use Rattle.reopen.specs.parts.Reopening.{Opened}
 

@@ -12,8 +12,8 @@ use Rattle.justification.specs.parts.Measure.{measure}
 use Rattle.space.specs.parts.Work.{section}
 use Rattle.space.specs.parts.Desk.{Desk}
 use Rattle.preds.specs.parts.Preds.{Preds}
-use Rattle.pick.specs.parts.Lines.{Covered}
-use Rattle.pick.specs.parts.Moves.{Standing}
+use Rattle.waiting.specs.parts.Lines.{Covered}
+use Rattle.waiting.specs.parts.Moves.{Standing}
 use Rattle.levels.specs.parts.Levels.{settledOf, levelOf}
 use Rattle.step.specs.parts.State.{State, Carried}
 

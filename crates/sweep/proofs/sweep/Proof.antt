@@ -7,7 +7,7 @@ use lib.ListN.{length}
 use native.Mathlib.Omega.{arith}
 use Rattle.game.specs.promise.Tables.{tablesOf}
 use Rattle.space.specs.parts.Desk.{deskOf}
-use Rattle.attract.proofs.Visits.{drawn-same}
+use Rattle.draw.proofs.Visits.{drawn-same}
 use Rattle.attract.proofs.Drains.{Going}
 use Rattle.sweep.proofs.Sweeps.{sweep-frontable, sweep-drainable, sweep-more}
 use Rattle.sweep.proofs.sweep.Statement.{statement}

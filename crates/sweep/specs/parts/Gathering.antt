@@ -6,8 +6,8 @@ use mathlib.Core.List.{List}
 use lib.ListN.{getD}
 use Rattle.space.specs.parts.Work.{section, Cell}
 use Rattle.space.specs.parts.Desk.{Desk, Laid}
-use Rattle.pick.specs.parts.Moves.{LinesOf}
-use Rattle.attract.specs.parts.Pile.{Piled, Pushable}
+use Rattle.waiting.specs.parts.Moves.{LinesOf}
+use Rattle.pile.specs.parts.Pile.{Piled, Pushable}
 
 -- somebody who stands in a line, and room for a pile
 pub record Lookable (n x : ℕ) (d : Desk) (work : List ℕ) (tail : ℕ) : Type 0 where

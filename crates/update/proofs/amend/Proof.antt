@@ -7,8 +7,8 @@ use denote.Ref.{now}
 use lib.ListN.{getD}
 use Rattle.game.specs.promise.Lent.{asked}
 use Rattle.storage.specs.promise.Lent.{Lent, claim, buffers}
-use Rattle.update.specs.promise.Updating.{Input, inputOf}
-use Rattle.update.proofs.Outcomes.{building-asks, judging-asks, refused-judged, building-asks-2, redoing-asks, done}
+use Rattle.inputs.specs.promise.Inputs.{Input, inputOf}
+use Rattle.update.proofs.Outcomes.{judging-asks, refused-judged, redoing-asks, done}
 use borrow.Author.Needs.{needs}
 use Rattle.update.proofs.amend.Statement.{statement}
 use Rattle.update.proofs.amend.Tie as tie
@@ -29,27 +29,16 @@ bytes c v = omega (arith, c .before .before .before .before .before .before .bef
 bytes2 : (c : tie.After-shared-slice-known10) (v : ℕ) → getD (now (c .before .before .before .before .before .before .before .before .before .before .args .priorities2)) v 0 < 256
 bytes2 c v = omega (arith, c .before .before .before .before .shared-slice-known6 .given v)
 
-slice-aggregate-predecessors : tie.Need-slice-aggregate-predecessors
-slice-aggregate-predecessors c = search needs
+slice-aggregate-judge-in : tie.Need-slice-aggregate-judge-in
+slice-aggregate-judge-in c = search needs
 
-slice-aggregate-predecessors-2 : tie.Need-slice-aggregate-predecessors-2
-slice-aggregate-predecessors-2 c = search needs
+slice-aggregate-judge-in-2 : tie.Need-slice-aggregate-judge-in-2
+slice-aggregate-judge-in-2 c = search needs
 
-predecessors-requires : tie.Need-predecessors-requires
-predecessors-requires c κs =
-    let s = c .before .before .before .before .before .before .before .before .before .before .before .before .before .before .before in
-    building-asks (input s) (lent s) (bytes (c .before .before .before .before .before)) (s .pre) refl refl
-
-slice-aggregate-judge : tie.Need-slice-aggregate-judge
-slice-aggregate-judge c = search needs
-
-slice-aggregate-judge-2 : tie.Need-slice-aggregate-judge-2
-slice-aggregate-judge-2 c = search needs
-
-judge-requires : tie.Need-judge-requires
-judge-requires c κs =
-    let s = c .before .before .before .before .before .before .before .before .before .before .before .before .before .before .before .before .before .before .before .before .before in
-    judging-asks (input s) (lent s) (bytes (c .before .before .before .before .before .before .before .before .before .before .before)) (s .pre) (c .before .before .before .before .before .predecessors .ensures .preds)
+judge-in-requires : tie.Need-judge-in-requires
+judge-in-requires c κs =
+    let s = c .before .before .before .before .before .before .before .before .before .before .before .before .before .before .before .before in
+    judging-asks (input s) (lent s) (bytes (c .before .before .before .before .before .before)) (s .pre) refl refl
 
 enum-told : tie.Need-enum-told
 enum-told c = search needs
@@ -65,20 +54,9 @@ same-length c = search needs
 
 returns : tie.Need-returns
 returns c =
-    let s = c .before .before .before .before .before .before .before .before .before .before .before .before .before .before .before .before .before .before .before .before .before .before .before .before .before .before .before in
+    let s = c .before .before .before .before .before .before .before .before .before .before .before .before .before .before .before .before .before .before .before .before .before .before .before .before in
     let told = c .before .enum-told2 .given .1 in
-    refused-judged (input s) (lent s) (bytes (c .before .before .before .before .before .before .before .before .before .before .before .before .before .before .before .before .before)) (s .pre) (c .before .before .before .before .before .judge .ensures) told (c .as-refusal .ensures _ told)
-
-slice-aggregate-predecessors-3 : tie.Need-slice-aggregate-predecessors-3
-slice-aggregate-predecessors-3 c = search needs
-
-slice-aggregate-predecessors-4 : tie.Need-slice-aggregate-predecessors-4
-slice-aggregate-predecessors-4 c = search needs
-
-predecessors-requires-2 : tie.Need-predecessors-requires-2
-predecessors-requires-2 c κs =
-    let s = c .before .before .before .before .before .before .before .before .before .before .before .before .before .before .before .before .before .before .before .before .before .before .before .before .before .before .before .before in
-    building-asks-2 (input s) (lent s) (bytes (c .before .before .before .before .before .before .before .before .before .before .before .before .before .before .before .before .before .before)) (s .pre) (bytes2 (c .before .before .before .before .before .before .before .before .before .before .before .before .before .before .before .before .before .before)) (c .before .before .before .before .before .before .before .before .before .before .before .before .predecessors .kept .1 .1 .1 .1 .0) (c .before .before .before .before .before .before .before .before .before .before .before .before .predecessors .kept .1 .1 .1 .1 .1 .0)
+    refused-judged (input s) (lent s) (bytes (c .before .before .before .before .before .before .before .before .before .before .before .before .before .before)) (s .pre) (c .before .before .before .before .before .before .before .judge-in .ensures) told (c .as-refusal .ensures _ told)
 
 slice-aggregate-redo : tie.Need-slice-aggregate-redo
 slice-aggregate-redo c = search needs
@@ -88,8 +66,8 @@ slice-aggregate-redo-2 c = search needs
 
 redo-requires : tie.Need-redo-requires
 redo-requires c κs =
-    let s = c .before .before .before .before .before .before .before .before .before .before .before .before .before .before .before .before .before .before .before .before .before .before .before .before .before .before .before .before .before .before .before .before .before .before .before .before in
-    redoing-asks (input s) (lent s) (bytes (c .before .before .before .before .before .before .before .before .before .before .before .before .before .before .before .before .before .before .before .before .before .before .before .before .before .before)) (s .pre) (c .before .before .before .before .before .before .before .before .before .before .before .before .before .before .judge .ensures) (bytes2 (c .before .before .before .before .before .before .before .before .before .before .before .before .before .before .before .before .before .before .before .before .before .before .before .before .before .before)) (c .before .before .before .before .before .before .before .before .before .before .enum-told .given .1) (c .before .before .before .before .before .before .before .predecessors2 .ensures .preds)
+    let s = c .before .before .before .before .before .before .before .before .before .before .before .before .before .before .before .before .before .before .before .before .before .before .before .before .before .before .before .before in
+    redoing-asks (input s) (lent s) (bytes (c .before .before .before .before .before .before .before .before .before .before .before .before .before .before .before .before .before .before)) (s .pre) (c .before .before .before .before .before .before .before .before .before .before .before .judge-in .ensures) (bytes2 (c .before .before .before .before .before .before .before .before .before .before .before .before .before .before .before .before .before .before)) (c .before .before .before .before .before .enum-told .given .1) (c .before .before .before .before .before .before .before .before .before .before .before .judge-in .kept .1 .1 .1 .1 .1 .1 .0) (c .before .before .before .before .before .before .before .before .before .before .before .judge-in .kept .1 .1 .1 .1 .1 .1 .1 .0)
 
 same-length-2 : tie.Need-same-length-2
 same-length-2 c = search needs
@@ -102,27 +80,21 @@ same-length-4 c = search needs
 
 returns-2 : tie.Need-returns-2
 returns-2 c =
-    let s = c .before .before .before .before .before .before .before .before .before .before .before .before .before .before .before .before .before .before .before .before .before .before .before .before .before .before .before .before .before .before .before .before .before .before .before .before .before .before .before .before .before .before .before in
-    done (input s) (lent s) (bytes (c .before .before .before .before .before .before .before .before .before .before .before .before .before .before .before .before .before .before .before .before .before .before .before .before .before .before .before .before .before .before .before .before .before)) (s .pre) (c .before .before .before .before .before .before .before .before .before .before .before .before .before .before .before .before .before .before .before .before .before .judge .ensures) (c .before .before .before .before .before .before .before .before .before .before .before .before .before .before .before .before .before .enum-told .given .1) (c .before .before .before .before .before .before .redo .ensures)
+    let s = c .before .before .before .before .before .before .before .before .before .before .before .before .before .before .before .before .before .before .before .before .before .before .before .before .before .before .before .before .before .before .before .before .before .before .before .before .before in
+    done (input s) (lent s) (bytes (c .before .before .before .before .before .before .before .before .before .before .before .before .before .before .before .before .before .before .before .before .before .before .before .before .before .before .before)) (s .pre) (c .before .before .before .before .before .before .before .before .before .before .before .before .before .before .before .before .before .before .before .before .judge-in .ensures) (c .before .before .before .before .before .before .before .before .before .before .before .before .before .before .enum-told .given .1) (c .before .before .before .before .before .before .before .before .redo .ensures)
 
 pub amend-spec : {M : Type 1} → statement M
 amend-spec =
     tie.close
     (tie.spec
-    slice-aggregate-predecessors
-    slice-aggregate-predecessors-2
-    predecessors-requires
-    slice-aggregate-judge
-    slice-aggregate-judge-2
-    judge-requires
+    slice-aggregate-judge-in
+    slice-aggregate-judge-in-2
+    judge-in-requires
     enum-told
     enum-told-2
     as-refusal-requires
     same-length
     returns
-    slice-aggregate-predecessors-3
-    slice-aggregate-predecessors-4
-    predecessors-requires-2
     slice-aggregate-redo
     slice-aggregate-redo-2
     redo-requires

@@ -3,7 +3,7 @@
 use Rattle.refusal.proofs.Rows.{tested-passed}
 use Rattle.game.specs.promise.Lent.{asked}
 use Rattle.storage.specs.promise.Lent.{Lent, claim, buffers}
-use Rattle.update.specs.promise.Updating.{Input, inputOf, testRows}
+use Rattle.inputs.specs.promise.Inputs.{Input, inputOf, testRows}
 use Rattle.update.proofs.Outcomes.{refused-early}
 use borrow.Author.Needs.{needs}
 use Rattle.update.proofs.update.Statement.{statement}

@@ -20,11 +20,8 @@ refused-requires c κs = search needs
 enum-known-taken-2 : tie.Need-enum-known-taken-2
 enum-known-taken-2 c = search needs
 
-mul-value : tie.Need-mul-value
-mul-value c = omega (arith, sizes-small _ _ _ (λ k. omega (arith, c .before .before .before .before .before .before .before .before .before .before .before .before .before .before .before .before .before .before .before .before .shared-slice-known .given k)) (c .before .taken2 .given .1) (c .before .before .before .before .before .before .before .before .before .before .before .read .ensures))
-
-add-value : tie.Need-add-value
-add-value c = omega (arith, sizes-small _ _ _ (λ k. omega (arith, c .before .before .before .before .before .before .before .before .before .before .before .before .before .before .before .before .before .before .before .before .shared-slice-known .given k)) (c .before .taken2 .given .1) (c .before .before .before .before .before .before .before .before .before .before .before .read .ensures))
+sizes-requires : tie.Need-sizes-requires
+sizes-requires c κs = sizes-small _ _ _ (λ k. omega (arith, c .before .before .before .before .before .before .before .before .before .before .before .before .before .before .before .before .before .before .before .before .shared-slice-known .given k)) (c .before .taken2 .given .1) (c .before .before .before .before .before .before .before .before .before .before .before .read .ensures)
 
 same-length : tie.Need-same-length
 same-length c = search needs
@@ -54,7 +51,7 @@ same-length-8 : tie.Need-same-length-8
 same-length-8 c = search needs
 
 returns-2 : tie.Need-returns-2
-returns-2 c = told _ readSaid (Reads _ _ _) (c .before .taken2 .given .1) (c .before .before .before .before .before .before .before .before .before .before .before .read .ensures) refl refl
+returns-2 c = told _ readSaid (Reads _ _ _) (c .before .before .taken2 .given .1) (c .before .before .before .before .before .before .before .before .before .before .before .before .read .ensures) refl (c .sizes .ensures)
 
 pub zoetelkorf-read-spec : {M : Type 1} → statement M
 zoetelkorf-read-spec =
@@ -64,8 +61,7 @@ zoetelkorf-read-spec =
     enum-known-taken
     refused-requires
     enum-known-taken-2
-    mul-value
-    add-value
+    sizes-requires
     same-length
     same-length-2
     same-length-3

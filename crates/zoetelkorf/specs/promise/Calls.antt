@@ -1,38 +1,15 @@
--- What a C caller gets: the refusal's number, 0 on success, and a value. The promises of the four calls, and below them an index of what they rest on.
-use Prim.Native.Nat.{ℕ, _+_, _*_}
-use mathlib.Core.Path.{_≡_}
-use mathlib.Core.List.{List, [], _∷_}
-use Rattle.refusal.specs.promise.Row.{Said, success, refused}
+-- The promises of the four calls of the C interface, and below them an index of what they rest on.
+use Prim.Native.Nat.{ℕ}
+use mathlib.Core.List.{List}
 use Rattle.game.specs.promise.Tables.{Tables}
 use Rattle.storage.specs.promise.Answer.{Answer}
 use Rattle.storage.specs.promise.Lent.{Lent}
 use Rattle.checker.specs.promise.Checking.{Checks}
 use Rattle.solver.specs.promise.Solving.{Solves}
-use Rattle.update.specs.promise.Updating.{Input, Updates}
+use Rattle.update.specs.promise.Updating.{Updates}
+use Rattle.inputs.specs.promise.Inputs.{Input}
 use Rattle.housefile.specs.promise.Reading.{Reads}
-
--- the result: the refusal's number, or 0
-abbrev pub numberSaid : Said → ℕ
-numberSaid (success values) = 0
-numberSaid (refused number place) = number
-
--- the value of a success: 0 (check, solve), the count (update), edges × 65,536 + n (read)
-abbrev pub valueOf : List ℕ → ℕ
-valueOf [] = 0
-valueOf (a ∷ []) = a
-valueOf (a ∷ b ∷ l) = b * 65536 + a
-
--- the value: that, or the place of a refusal
-abbrev pub valueSaid : Said → ℕ
-valueSaid (success values) = valueOf values
-valueSaid (refused number place) = place
-
--- number and value are those of something said that keeps the promise P
-pub record Told (P : Said → Type 0) (number value : ℕ) : Type 0 where
-  pub said : Said
-  pub promise : P said
-  pub number-is : number ≡ numberSaid said
-  pub value-is : value ≡ valueSaid said
+use Rattle.told.specs.promise.Told.{Told}
 
 -- `zoetelkorf_check`
 abbrev pub ChecksBy : Tables → Answer → (work work′ : List ℕ) (number value : ℕ) → Type 0
@@ -67,11 +44,14 @@ ReadsBy file before after = Told (Reads file before after)
 --   checker   Checking    `check`
 --   solver    Solving     `solve`
 --   amend     Amended     what an amendment reaches
+--   inputs    Inputs      what is handed to an update, 9, the second game's rows
+--   redo      Redone      which lines are decided anew, which are kept
 --   update    Updating    `update`
---   blocks    Format      a file's bytes
---   blocks    Filed       what stands in a file
---   blocks    Faults      the rows that judge a file
+--   format    Format      a file's bytes
+--   format    Filed       what stands in a file
+--   format    Faults      the rows that judge a file
 --   decoding  Holding     what tables of the fixed sizes hold
 --   housefile Faults      8 on the lent tables, behind the file's rows
 --   housefile Reading     `read`
+--   told      Told        number and value of what is said
 -- All other files under `specs`, in the folders `specs/parts`, say what internal functions ask of one another.

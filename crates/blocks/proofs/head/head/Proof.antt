@@ -7,8 +7,8 @@ use lib.ListN.{length}
 use denote.Ref.{now}
 use Rattle.refusal.specs.promise.Row.{row, None}
 use Rattle.refusal.proofs.Rows.{Given, so-far, also, later, whatever, passed}
-use Rattle.blocks.specs.promise.Faults.{Fault41Short, FaultSizes, Fault41Length, blockRows}
-use Rattle.blocks.proofs.HeadTests.{headed}
+use Rattle.format.specs.promise.Faults.{Fault41Short, FaultSizes, Fault41Length, blockRows}
+use Rattle.format.proofs.HeadTests.{headed}
 use borrow.Author.Needs.{needs}
 use Rattle.blocks.proofs.head.head.Statement.{statement}
 use Rattle.blocks.proofs.head.head.Tie as tie

@@ -1,7 +1,7 @@
 -- `blocks::head::sizes` meets its contract. Row 1 on the numbers in block 0.
 -- Assumes nothing.
-use Rattle.blocks.proofs.HeadTests.{sizes-right}
-use Rattle.blocks.specs.promise.Faults.{no-vertex, over-2048, over-16384}
+use Rattle.format.proofs.HeadTests.{sizes-right}
+use Rattle.format.specs.promise.Faults.{no-vertex, over-2048, over-16384}
 use Rattle.refusal.proofs.Scans.{scan-none, scan-found}
 use native.Mathlib.Omega.{arith}
 use mathlib.Core.Path.{refl, sym, _∙_}

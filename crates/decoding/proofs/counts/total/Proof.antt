@@ -1,7 +1,7 @@
 -- `decoding::counts::total` meets its contract. The sum of the successor counts. Invariant `Running`: the sum of the counts passed.
 -- Assumes nothing.
 use Rattle.decoding.proofs.Running.{Running, running-none, running-more, running-all}
-use Rattle.blocks.specs.promise.Filed.{verticesFiled}
+use Rattle.format.specs.promise.Filed.{verticesFiled}
 use native.Mathlib.Omega.{arith}
 use Prim.Native.Nat.{_-_}
 use mathlib.Core.Path.{_≡_}

@@ -1,6 +1,6 @@
 -- `decoding::places::count` meets its contract. The successor count that stands at a vertex's place.
 -- Assumes nothing.
-use Rattle.blocks.specs.promise.Filed.{wordAt}
+use Rattle.format.specs.promise.Filed.{wordAt}
 use denote.Ref.{now}
 use Prim.Native.Nat.{ℕ, _+_}
 use mathlib.Core.Path.{ap, _∙_}

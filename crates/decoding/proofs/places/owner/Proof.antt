@@ -1,6 +1,6 @@
 -- `decoding::places::owner` meets its contract. The owner that stands at a vertex's place.
 -- Assumes nothing.
-use Rattle.blocks.proofs.Lists.{owner-at}
+use Rattle.format.proofs.Lists.{owner-at}
 use denote.Ref.{now}
 use lib.ListN.{getD}
 use Prim.Native.Nat.{ℕ}

@@ -1,6 +1,6 @@
 -- `decoding::places::priority` meets its contract. The priority that stands at a vertex's place.
 -- Assumes nothing.
-use Rattle.blocks.proofs.Lists.{priority-at}
+use Rattle.format.proofs.Lists.{priority-at}
 use denote.Ref.{now}
 use lib.ListN.{getD}
 use Prim.Native.Nat.{ℕ, _+_}

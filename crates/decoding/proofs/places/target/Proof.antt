@@ -1,7 +1,7 @@
 -- `decoding::places::target` meets its contract. The target that stands at an edge's place.
 -- Assumes nothing.
-use Rattle.blocks.proofs.Lists.{target-at}
-use Rattle.blocks.specs.promise.Filed.{wordAt}
+use Rattle.format.proofs.Lists.{target-at}
+use Rattle.format.specs.promise.Filed.{wordAt}
 use denote.Ref.{now}
 use Prim.Native.Nat.{ℕ, _+_, _*_, _/_, _%_}
 use mathlib.Core.Path.{sym, ap, _∙_}

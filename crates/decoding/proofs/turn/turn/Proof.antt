@@ -3,10 +3,10 @@
 use Rattle.decoding.proofs.Between.{Between, between-none, between-end}
 use Rattle.decoding.proofs.Padding.{padded-take}
 use Rattle.decoding.proofs.Turned.{padded-plain, unturned-low, turned-more}
-use Rattle.blocks.proofs.Lists.{priorities-long}
-use Rattle.blocks.proofs.Turning.{turned-long}
-use Rattle.blocks.specs.promise.Filed.{verticesFiled, ruleFiled, prioritiesFiled}
-use Rattle.blocks.specs.promise.Format.{highestOf, turnedOf}
+use Rattle.format.proofs.Lists.{priorities-long}
+use Rattle.format.proofs.Turning.{turned-long}
+use Rattle.format.specs.promise.Filed.{verticesFiled, ruleFiled, prioritiesFiled}
+use Rattle.format.specs.promise.Format.{highestOf, turnedOf}
 use lib.Seq.{length-take-le}
 use denote.Ref.{now}
 use native.Mathlib.Omega.{arith}

@@ -10,8 +10,8 @@ use Rattle.refusal.specs.promise.Row.{None}
 use Rattle.refusal.proofs.Rows.{Given, also, passed, tested-refused}
 use Rattle.game.specs.promise.Tables.{Tables, tablesOf}
 use Rattle.game.specs.promise.Lent.{Fit, Fault8, asked}
-use Rattle.blocks.specs.promise.Filed.{tablesFiled}
-use Rattle.blocks.proofs.AllRows.{all-sized}
+use Rattle.format.specs.promise.Filed.{tablesFiled}
+use Rattle.format.proofs.AllRows.{all-sized}
 use Rattle.housefile.specs.promise.Faults.{tableSizes, fileRows}
 use Rattle.decoding.specs.promise.Holding.{Holding}
 use Rattle.decoding.proofs.Padding.{padded-blank}

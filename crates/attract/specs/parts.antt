@@ -1,2 +1,0 @@
-pub mod Pile
-pub mod Drawing

@@ -1,0 +1,2 @@
+pub mod BlockTests
+pub mod Weights

@@ -1,0 +1,3 @@
+pub mod Onward
+pub mod Draws
+pub mod Visits

@@ -1,0 +1,2 @@
+pub mod SecondKinds
+pub mod Rows
