@@ -1,4 +1,4 @@
--- What the part after the tests asks, what the part after acceptance asks and gives.
+-- What the part after acceptance asks and gives.
 use Prim.Native.Nat.{ℕ, _<_}
 use mathlib.Core.Path.{_≡_}
 use mathlib.Core.List.{List}
