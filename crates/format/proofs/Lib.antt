@@ -1,3 +1,4 @@
+-- the laws of what stands in a file: kinds of blocks, header and blocks in turn, its lists, all rows that judge it, its tables and their turning
 pub mod BlockKinds
 pub mod HeadTests
 pub mod InTurn

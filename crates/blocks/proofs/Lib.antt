@@ -1,2 +1,0 @@
--- the laws that the functions' proofs cite
--- what stands in a file: its lists, all rows that judge it, its tables and their turning
