@@ -1,5 +1,5 @@
 -- The rows of one block: what each test has seen, and the row's answer.
-use Prim.Native.Nat.{ℕ, _+_, _*_, _%_, _<_, _≤_}
+use Prim.Native.Nat.{ℕ, _+_, _*_, _<_, _≤_}
 use mathlib.Core.Path.{_≡_, refl, ap, sym, _∙_}
 use mathlib.Core.List.{List}
 use native.Mathlib.Omega.{arith}
@@ -7,7 +7,7 @@ use Rattle.refusal.specs.promise.Row.{Lowest, NoPlace}
 use Rattle.format.specs.promise.Format.{checkOf, kindOf, usedOf}
 use Rattle.format.specs.promise.Filed.{byteAt, wordAt, verticesFiled, edgesFiled, ruleFiled}
 use Rattle.format.specs.promise.Faults.{Fault42, Fault43, Fault44, number, kind, byte3, used, unused, rule}
-use Rattle.block.specs.parts.Bytes.{Weighed, Stain}
+use Rattle.block.specs.parts.Bytes.{Stain}
 
 -- a row that applies at one place alone
 pub only-at : {P : ℕ → Type 0} {b : ℕ} → ((y : ℕ) → P y → y ≡ b) → P b → Lowest P b
@@ -15,14 +15,11 @@ only-at {b} own p = record { holds = p; lower = λ y l q. let e : y ≡ b = own 
 
 -- 42
 
-module _ (file : List ℕ) (b w s : ℕ) (sum : Weighed file (512 * b) w) (stored : s ≡ wordAt file (512 * b + 510)) where
-  made : w % 65521 ≡ checkOf (λ i. byteAt file (512 * b + i))
-  made = ap (λ (x : ℕ). x % 65521) (sum .is)
-
-  pub check-wrong : ¬ (w % 65521 ≡ s) → Lowest (Fault42 file b) b
+module _ (file : List ℕ) (b w s : ℕ) (made : w ≡ checkOf (λ i. byteAt file (512 * b + i))) (stored : s ≡ wordAt file (512 * b + 510)) where
+  pub check-wrong : ¬ (w ≡ s) → Lowest (Fault42 file b) b
   check-wrong h = only-at (λ y f. f .place) (record { place = refl; wrong = λ q. h (made ∙ sym q ∙ sym stored) })
 
-  pub check-right : w % 65521 ≡ s → NoPlace (Fault42 file b)
+  pub check-right : w ≡ s → NoPlace (Fault42 file b)
   check-right h x f = f .wrong (sym stored ∙ sym h ∙ made)
 
 -- 43

@@ -3,35 +3,21 @@ use format::bytes::edges;
 use format::bytes::rule;
 use format::bytes::vertices;
 use format::bytes::word;
-use format::extent::vertex_blocks;
+use format::extent::kind_of;
+use format::extent::used_of;
+use format::weight::check_of;
 use refusal::FileFault;
 use refusal::Found;
 use refusal::Kind;
 use refusal::Tested;
 use refusal::or;
-ghost use mathlib.Core.Path.{_≡_};
-ghost use Prim.Native.Nat.{_+_, _<_, _≤_, min};
+ghost use Prim.Native.Nat.{_+_, _≤_};
 ghost use lib.ListN.{length};
 ghost use Rattle.refusal.specs.parts.Found.{Finds, testedSaid};
 ghost use Rattle.refusal.specs.promise.Row.{Gives};
-ghost use Rattle.format.specs.promise.Format.{kindOf, usedOf};
 ghost use Rattle.format.specs.promise.Faults.{Fault42, Fault43, Fault44, blockRows};
 ghost use Rattle.format.specs.parts.Tests.{Present};
-ghost use Rattle.block.specs.parts.Bytes.{Weighed, Used, Stain};
-
-// A block's bytes 0 to 509, weighted by their places from 1 on.
-fn weigh(file: &[u8], from: usize) -> usize
-    requires { ⌜ from + 510 ≤ length (now file) ⌝ }
-    ensures { λ r. ⌜ Weighed (now (file .entry)) from r ⌝ }
-{
-    let mut sum: usize = 0;
-    let mut i: usize = 0;
-    while i < 510 {
-        sum += (i + 1) * (file[from + i] as usize);
-        i += 1;
-    }
-    sum
-}
+ghost use Rattle.block.specs.parts.Bytes.{Stain};
 
 // 42: the block's check.
 fn check(file: &[u8], b: usize) -> Found
@@ -39,23 +25,10 @@ fn check(file: &[u8], b: usize) -> Found
     ensures { λ r. ⌜ Finds (Fault42 (now (file .entry)) b) r ⌝ }
 {
     let from = 512 * b;
-    if weigh(file, from) % 65521 != word(file, from + 510) as usize {
+    if check_of(file, from) != word(file, from + 510) {
         return Found::At(b);
     }
     Found::Nowhere
-}
-
-fn kind_of(n: usize, b: usize) -> usize
-    requires { ⌜ n < 65536 ⌝ }
-    ensures { λ r. ⌜ r ≡ kindOf n b ⌝ }
-{
-    if b == 0 {
-        return 1;
-    }
-    if b <= vertex_blocks(n) {
-        return 2;
-    }
-    3
 }
 
 // 43: the block's number or kind.
@@ -67,34 +40,10 @@ fn kind(file: &[u8], b: usize) -> Found
     if word(file, from) as usize != b {
         return Found::At(b);
     }
-    if file[from + 2] as usize != kind_of(vertices(file), b) {
+    if file[from + 2] != kind_of(vertices(file), b) {
         return Found::At(b);
     }
     Found::Nowhere
-}
-
-// A payload of so many bytes, cut off at a whole block's.
-fn at_most(left: usize) -> usize
-    ensures { λ r. ⌜ r ≡ min 504 left ⌝ }
-{
-    if left < 504 {
-        return left;
-    }
-    504
-}
-
-fn used_of(n: usize, m: usize, b: usize) -> usize
-    requires { ⌜ Used n m b ⌝ }
-    ensures { λ r. ⌜ r ≡ usedOf n m b ⌝ }
-{
-    if b == 0 {
-        return 5;
-    }
-    let blocks = vertex_blocks(n);
-    if b <= blocks {
-        return at_most(4 * n - 504 * (b - 1));
-    }
-    at_most(2 * m - 504 * (b - 1 - blocks))
 }
 
 // The first payload byte from `used` on that is not zero.

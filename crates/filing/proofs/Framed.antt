@@ -13,7 +13,7 @@ use Rattle.format.specs.promise.Faults.{FaultSizes, headRows, turnRows}
 use Rattle.format.proofs.HeadTests.{sizes-right, head-none}
 use Rattle.format.proofs.InTurn.{turn-none}
 use Rattle.filing.proofs.RightBlock.{none-of-right}
-use Rattle.filing.proofs.FileOf.{file-long}
+use Rattle.format.proofs.FileOf.{file-long}
 use Rattle.filing.proofs.Written.{vertices-are, edges-are, right-written, sum-is}
 
 -- the sizes that a file may say, and a rule

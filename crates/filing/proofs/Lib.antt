@@ -1,7 +1,5 @@
 -- the file of a filing
 pub mod RightBlock
-pub mod Picks
-pub mod FileOf
 pub mod Written
 pub mod Framed
 -- theorems: what is filed is well formed; no row refuses a file exactly if it is the file of well-formed tables

@@ -14,12 +14,12 @@ use Rattle.format.specs.promise.Filed.{byteAt, wordAt, verticesFiled, edgesFile
 use Rattle.format.specs.promise.Faults.{judgedRows}
 use Rattle.format.specs.parts.Tests.{FileSized, Summed}
 use Rattle.lists.proofs.Sums.{sum-same}
-use Rattle.filing.proofs.FileOf.{file-long, file-at}
+use Rattle.format.proofs.FileOf.{file-long, file-at}
 use Rattle.format.proofs.Lists.{owners-long, targets-long, owner-at, priority-at, target-at, count-is}
 use Rattle.format.proofs.HeadTests.{head-first-block}
 use Rattle.format.proofs.InTurn.{turn-each}
 use Rattle.format.proofs.AllRows.{all-head, all-turn, all-sized, all-summed}
-use Rattle.filing.proofs.Picks.{pick-true, pick-false}
+use Rattle.format.proofs.Picks.{pick-true, pick-false}
 use Rattle.format.proofs.BlockKinds.{used-vertex, used-target}
 use Rattle.filing.proofs.RightBlock.{Right, right-of}
 

@@ -12,8 +12,8 @@ use Rattle.lists.specs.promise.Sequence.{sumTo}
 use Rattle.format.specs.promise.Filed.{byteAt, verticesFiled, edgesFiled, ruleFiled, vertexPlace, targetPlace, countFiled, ownersFiled, prioritiesFiled, startsFiled, targetsFiled}
 use Rattle.lists.proofs.Sums.{sum-same}
 use Rattle.format.proofs.Lists.{owners-long, priorities-long, starts-long, targets-long, owner-at, priority-at, start-at, target-at}
-use Rattle.filing.proofs.FileOf.{file-byte}
-use Rattle.filing.proofs.Picks.{pick-true, pick-false}
+use Rattle.format.proofs.FileOf.{file-byte}
+use Rattle.format.proofs.Picks.{pick-true, pick-false}
 use Rattle.format.proofs.BlockKinds.{used-vertex, used-target}
 use Rattle.filing.proofs.RightBlock.{Right}
 

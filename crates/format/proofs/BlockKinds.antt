@@ -1,8 +1,9 @@
 -- The kind of a block and how much of its payload is used, by where the block stands.
 use Prim.Native.Nat.{ℕ, zero, suc, _-_, _*_, _<_, _≤_, min}
-use mathlib.Core.Path.{_≡_, refl, ap, _∙_}
+use mathlib.Core.Path.{_≡_, refl, ap, sym, subst, _∙_}
 use mathlib.Core.Bool.{Bool}
 use native.Mathlib.Omega.{arith}
+use native.Mathlib.Decide.{ℕ-discrete, decLe}
 use borrow.Author.Tests.{lt-ltb, le-ltb}
 use Rattle.format.specs.promise.Format.{pick, kindOf, usedOf, vertexBlocks}
 
@@ -30,3 +31,12 @@ used-target n m (suc b) l =
     let k : vertexBlocks n ≤ b = omega arith in
     ap (λ (t : Bool). pick t (min 504 (4 * n - 504 * b)) (min 504 (2 * m - 504 * (b - vertexBlocks n)))) (le-ltb b (vertexBlocks n) k) ∙
     ap (λ (k : ℕ). min 504 (2 * m - 504 * (k - vertexBlocks n))) e
+
+-- never more than the payload
+pub used-most : (n m b : ℕ) → usedOf n m b ≤ 504
+used-most n m b = at (ℕ-discrete b 0) (decLe b (vertexBlocks n))
+  where
+    at : Dec (b ≡ 0) → Dec (b ≤ vertexBlocks n) → usedOf n m b ≤ 504
+    at (yes z) d = subst (λ (k : ℕ). usedOf n m k ≤ 504) (sym z) (omega arith)
+    at (no some) (yes l) = omega (arith, used-vertex n m b some l)
+    at (no some) (no h) = let l : vertexBlocks n < b = omega arith in omega (arith, used-target n m b l)

@@ -25,7 +25,7 @@ kinds =
     Claim answer.Mark ∷ Claim answer.Move ∷ Claim answer.Escape ∷ Claim answer.Cycle ∷
     Buffer ∷ Buffer ∷ Buffer ∷ Buffer ∷ Buffer ∷ Buffer ∷ map Second faults ++
     Buffer ∷ Buffer ∷ Buffer ∷ Buffer ∷ Buffer ∷ Buffer ∷ Buffer ∷ Buffer ∷ Buffer ∷ Buffer ∷ Buffer ∷ Buffer ∷ Buffer ∷
-    Filed file.Length ∷ Filed file.Check ∷ Filed file.Kind ∷ Filed file.Bytes ∷ Filed file.Edges ∷ []
+    Filed file.Length ∷ Filed file.Check ∷ Filed file.Kind ∷ Filed file.Bytes ∷ Filed file.Edges ∷ Filed file.Output ∷ []
 
 kind-at : (k : Kind) → getD kinds (numberOf k) Buffer ≡ k
 unfolding faults kinds
@@ -54,6 +54,7 @@ kind-at (Filed file.Check) = refl
 kind-at (Filed file.Kind) = refl
 kind-at (Filed file.Bytes) = refl
 kind-at (Filed file.Edges) = refl
+kind-at (Filed file.Output) = refl
 
 -- a number names one kind
 pub number-injective : (k l : Kind) → numberOf k ≡ numberOf l → k ≡ l

@@ -34,7 +34,7 @@ pub enum AnswerFault {
     Cycle,
 }
 
-// What is wrong with a file: 41 to 45.
+// What is wrong with a file, or with the output lent for one: 41 to 46.
 pub enum FileFault {
     // 41: its length.
     Length,
@@ -46,6 +46,8 @@ pub enum FileFault {
     Bytes,
     // 45: the sum of the successor counts.
     Edges,
+    // 46: the lent output is not as long as the file.
+    Output,
 }
 
 // What a refusal is given for, by family.
@@ -60,7 +62,7 @@ pub enum Kind {
     Claim(AnswerFault),
     // 21 to 27.
     Second(TableFault),
-    // 41 to 45.
+    // 41 to 46.
     Filed(FileFault),
 }
 
@@ -135,6 +137,7 @@ fn of_file(fault: FileFault) -> u64
         FileFault::Kind => 43,
         FileFault::Bytes => 44,
         FileFault::Edges => 45,
+        FileFault::Output => 46,
     }
 }
 

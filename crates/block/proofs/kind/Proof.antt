@@ -1,8 +1,6 @@
 -- `block::kind` meets its contract. Row 43: the stored number and kind are held against those that the block's place gives.
 -- Assumes nothing.
 use Rattle.block.proofs.BlockTests.{number-wrong, kind-wrong, kind-right}
-use Prim.Native.Nat.{_+_, _*_}
-use native.Mathlib.Omega.{arith}
 use borrow.Author.Needs.{needs}
 use Rattle.block.proofs.kind.Statement.{statement}
 use Rattle.block.proofs.kind.Tie as tie
@@ -24,9 +22,6 @@ add-if2 c = search needs
 
 shared-slice-read-if2 : tie.Need-shared-slice-read-if2
 shared-slice-read-if2 c = search needs
-
-cast-if2 : tie.Need-cast-if2
-cast-if2 c = omega (arith, c .shared-slice-known2 .given (512 * c .before .before .before .before .args .b + 2))
 
 vertices-requires : tie.Need-vertices-requires
 vertices-requires c κs = search needs
@@ -50,7 +45,6 @@ kind-spec =
     returns
     add-if2
     shared-slice-read-if2
-    cast-if2
     vertices-requires
     kind-of-requires
     returns-2

@@ -1,16 +1,26 @@
--- What the tests of header and blocks ask, and what is known of a file that has passed them.
+-- What the leaves and the tests of header and blocks ask, and what is known of a file that has passed them.
 use Prim.Native.Nat.{ℕ, _+_, _*_, _<_, _≤_}
 use mathlib.Core.Path.{_≡_}
 use mathlib.Core.List.{List}
 use lib.ListN.{length}
 use Rattle.lists.specs.promise.Sequence.{sumTo}
 use Rattle.format.specs.promise.Format.{blocksOf}
-use Rattle.format.specs.promise.Filed.{verticesFiled, edgesFiled, countFiled}
+use Rattle.format.specs.promise.Filed.{byteAt, verticesFiled, edgesFiled, countFiled}
 
 -- r is the two-byte number x
 pub record Small (x r : ℕ) : Type 0 where
   pub is : r ≡ x
   pub small : r < 65536
+
+-- b is a block of a file of n vertices and m edges
+pub record Used (n m b : ℕ) : Type 0 where
+  pub vertices : n < 65536
+  pub edges : m < 65536
+  pub counted : b < blocksOf n m
+
+-- r is the 510 bytes from the offset on, weighted by their places and summed
+pub record Weighed (file : List ℕ) (from r : ℕ) : Type 0 where
+  pub is : r ≡ sumTo 510 (λ i. (i + 1) * byteAt file (from + i))
 
 -- block b lies in the file, and the file is to have it
 pub record Present (file : List ℕ) (b : ℕ) : Type 0 where

@@ -49,6 +49,10 @@ pub record Filing : Type 0 where
   pub tables : Tables
   pub rule : ℕ
 
+-- tables filed as they are, by rule 0
+abbrev pub plain : Tables → Filing
+plain t = record { tables = t; rule = 0 }
+
 -- byte k of the header's payload: n, the number of edges, the rule
 abbrev pub headByte : Filing → ℕ → ℕ
 headByte f zero = vertices (f .tables) % 256

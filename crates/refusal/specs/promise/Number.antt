@@ -28,13 +28,14 @@ answerNumber answer.Move = 12
 answerNumber answer.Escape = 13
 answerNumber answer.Cycle = 14
 
--- a file
+-- a file, or the output lent for one
 abbrev pub fileNumber : FileFault → ℕ
 fileNumber file.Length = 41
 fileNumber file.Check = 42
 fileNumber file.Kind = 43
 fileNumber file.Bytes = 44
 fileNumber file.Edges = 45
+fileNumber file.Output = 46
 
 -- any kind; the second game's faults are the first's, 20 higher
 abbrev pub numberOf : Kind → ℕ

@@ -1,12 +1,12 @@
--- `block::weigh` meets its contract. The weighted sum of a block. Invariant `Weight`: the sum of the terms passed, each at most 510 × 255.
+-- `format::weight::weigh` meets its contract. The weighted sum of a block. Invariant `Weight`: the sum of the terms passed, each at most 512 × 255.
 -- Assumes nothing.
 use lib.ListN.{getD}
-use Prim.Native.Nat.{_+_, _<_, _-_}
-use Rattle.block.proofs.Weights.{Weight, weight-none, weight-more, weight-all, term-small}
+use Prim.Native.Nat.{_+_, _*_, _-_, _<_, _≤_}
+use Rattle.format.proofs.Weights.{Weight, weight-none, weight-more, weight-all, term-small}
 use native.Mathlib.Omega.{arith}
 use borrow.Author.Needs.{needs}
-use Rattle.block.proofs.weigh.Statement.{statement}
-use Rattle.block.proofs.weigh.Tie as tie
+use Rattle.format.proofs.weight.weigh.Statement.{statement}
+use Rattle.format.proofs.weight.weigh.Tie as tie
 
 abbrev Inv-loop : tie.InvT-loop
 Inv-loop file from sum₀ i₀ sum i = Weight file from sum i
@@ -17,6 +17,10 @@ abbrev μ-loop : tie.MeasureT-loop
 -- the byte of this turn
 byte : (c : tie.After-shared-slice-known Inv-loop μ-loop) → getD (c .before .before .before .args .file .now) (c .before .before .before .args .from + c .before .before .loop .i) 0 < 256
 byte c = omega (arith, c .shared-slice-known .given (c .before .before .before .args .from + c .before .before .loop .i))
+
+-- its term
+term : (c : tie.After-shared-slice-known Inv-loop μ-loop) → (c .before .before .loop .i + 1) * getD (c .before .before .before .args .file .now) (c .before .before .before .args .from + c .before .before .loop .i) 0 ≤ 130560
+term c = term-small (c .before .before .loop .i) _ (omega (arith, c .before .loop-test .taken)) (byte c)
 
 loop-holds : tie.Need-loop-holds Inv-loop μ-loop
 loop-holds c = weight-none _ _
@@ -34,10 +38,10 @@ cast-sum : tie.Need-cast-sum Inv-loop μ-loop
 cast-sum c = omega (arith, byte c)
 
 mul-sum : tie.Need-mul-sum Inv-loop μ-loop
-mul-sum c = let t = term-small (c .before .before .loop .i) _ (c .before .loop-test .taken) (byte c) in omega arith
+mul-sum c = let t = term c in omega arith
 
 add-sum-3 : tie.Need-add-sum-3 Inv-loop μ-loop
-add-sum-3 c = let t = term-small (c .before .before .loop .i) _ (c .before .loop-test .taken) (byte c) in omega (arith, c .before .before .loop .inv .small)
+add-sum-3 c = let t = term c in omega (arith, c .before .before .loop .inv .small)
 
 add-i : tie.Need-add-i Inv-loop μ-loop
 add-i c = search needs

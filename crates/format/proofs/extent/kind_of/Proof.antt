@@ -1,11 +1,11 @@
--- `block::kind_of` meets its contract. The kind of a block, by where it stands.
+-- `format::extent::kind_of` meets its contract. The kind of a block, by where it stands.
 -- Assumes nothing.
 use Rattle.format.proofs.BlockKinds.{kind-vertex, kind-target}
 use mathlib.Core.Path.{sym, subst}
 use Prim.Native.Nat.{ℕ, _≤_, _<_}
 use borrow.Author.Needs.{needs}
-use Rattle.block.proofs.kind_of.Statement.{statement}
-use Rattle.block.proofs.kind_of.Tie as tie
+use Rattle.format.proofs.extent.kind_of.Statement.{statement}
+use Rattle.format.proofs.extent.kind_of.Tie as tie
 
 returns : tie.Need-returns
 returns c = search needs

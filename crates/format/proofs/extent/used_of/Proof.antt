@@ -1,11 +1,11 @@
--- `block::used_of` meets its contract. The payload bytes that a block uses, by where it stands.
+-- `format::extent::used_of` meets its contract. The payload bytes that a block uses, by where it stands.
 -- Assumes nothing.
 use Prim.Native.Nat.{ℕ, _≤_, _<_, _-_, _*_, min}
 use mathlib.Core.Path.{sym, subst, _∙_, ap}
 use Rattle.format.proofs.BlockKinds.{used-vertex, used-target}
 use borrow.Author.Needs.{needs}
-use Rattle.block.proofs.used_of.Statement.{statement}
-use Rattle.block.proofs.used_of.Tie as tie
+use Rattle.format.proofs.extent.used_of.Statement.{statement}
+use Rattle.format.proofs.extent.used_of.Tie as tie
 
 returns : tie.Need-returns
 returns c = search needs
