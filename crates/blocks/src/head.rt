@@ -2,8 +2,7 @@
 use block::block;
 use format::bytes::edges;
 use format::bytes::vertices;
-use format::extent::target_blocks;
-use format::extent::vertex_blocks;
+use format::extent::all_blocks;
 use game::EDGES;
 use game::VERTICES;
 use refusal::FileFault;
@@ -51,7 +50,7 @@ fn extent(file: &[u8]) -> Found
     requires { ⌜ 512 ≤ length (now file) ⌝ }
     ensures { λ r. ⌜ Finds (Fault41Length (now (file .entry))) r ⌝ }
 {
-    let blocks = 1 + vertex_blocks(vertices(file)) + target_blocks(edges(file));
+    let blocks = all_blocks(vertices(file), edges(file));
     if file.len() != 512 * blocks {
         return Found::At(file.len() / 512);
     }

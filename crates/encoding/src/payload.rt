@@ -3,9 +3,9 @@ use format::bytes::set_word;
 use format::extent::vertex_blocks;
 ghost use mathlib.Core.Path.{_≡_};
 ghost use mathlib.Core.List.{[]};
-ghost use Prim.Native.Nat.{_+_, _-_, _*_, _≤_, min};
+ghost use Prim.Native.Nat.{_+_, _-_, _*_, _<_, _≤_, min};
 ghost use lib.ListN.{length};
-ghost use Rattle.game.specs.promise.Tables.{tablesOf, vertices};
+ghost use Rattle.game.specs.promise.Tables.{tablesOf};
 ghost use Rattle.game.specs.promise.Lent.{asked, lent};
 ghost use Rattle.format.specs.promise.Format.{plain, usedOf, bodyByte};
 ghost use Rattle.format.specs.parts.Put.{Put};
@@ -21,11 +21,14 @@ fn header(owners: &[u8], targets: &[u16], part: &mut [u8])
     part[10] = 0;
 }
 
-// Where a run from here ends: so many on, or at the end of the list.
+// Where a run from here ends: so many on, or where the list does.
 fn run_end(first: usize, most: usize, all: usize) -> usize
-    requires { ⌜ (first ≤ all) × (most ≤ 252) ⌝ }
+    requires { ⌜ (first < 65536) × (most ≤ 252) ⌝ }
     ensures { λ r. ⌜ r ≡ first + min most (all - first) ⌝ }
 {
+    if all <= first {
+        return first;
+    }
     if all - first < most {
         return all;
     }
@@ -51,7 +54,7 @@ fn run_vertices(owners: &[u8], priorities: &[u8], starts: &[u16], first: usize, 
 
 // 252 targets from the first on, or what is left of them.
 fn run_targets(targets: &[u16], first: usize, part: &mut [u8])
-    requires { ⌜ (length (now part) ≡ 512) × (first ≤ length (now targets)) ⌝ }
+    requires { ⌜ (length (now part) ≡ 512) × (first < 65536) ⌝ }
     ensures { λ _. ⌜ Put 6 (6 + 2 * min 252 (length (now (targets .entry)) - first)) (targetAt (now (targets .entry)) first) (now (part .entry)) (now (part .exit)) ⌝ }
 {
     let end = run_end(first, 252, targets.len());

@@ -1,25 +1,29 @@
 // How many blocks the vertices and the edges take; a block's kind, and how much of its payload is used.
 ghost use mathlib.Core.Path.{_≡_};
-ghost use Prim.Native.Nat.{_<_, min};
-ghost use Rattle.format.specs.promise.Format.{vertexBlocks, targetBlocks, kindOf, usedOf};
+ghost use Prim.Native.Nat.{min};
+ghost use Rattle.format.specs.promise.Format.{vertexBlocks, targetBlocks, blocksOf, kindOf, usedOf};
 ghost use Rattle.format.specs.parts.Tests.{Used};
 
+// Any number may be asked for: the rest is rounded up by itself, so that nothing overflows.
 pub fn vertex_blocks(n: usize) -> usize
-    requires { ⌜ n < 65536 ⌝ }
     ensures { λ r. ⌜ r ≡ vertexBlocks n ⌝ }
 {
-    (n + 125) / 126
+    n / 126 + (n % 126 + 125) / 126
 }
 
 pub fn target_blocks(m: usize) -> usize
-    requires { ⌜ m < 65536 ⌝ }
     ensures { λ r. ⌜ r ≡ targetBlocks m ⌝ }
 {
-    (m + 251) / 252
+    m / 252 + (m % 252 + 251) / 252
+}
+
+pub fn all_blocks(n: usize, m: usize) -> usize
+    ensures { λ r. ⌜ r ≡ blocksOf n m ⌝ }
+{
+    1 + vertex_blocks(n) + target_blocks(m)
 }
 
 pub fn kind_of(n: usize, b: usize) -> u8
-    requires { ⌜ n < 65536 ⌝ }
     ensures { λ r. ⌜ r ≡ kindOf n b ⌝ }
 {
     if b == 0 {

@@ -9,7 +9,7 @@ use native.Mathlib.Decide.{decLt}
 use native.Mathlib.Omega.{arith}
 use Rattle.refusal.specs.promise.Row.{Row, row, refused, Lowest, NoPlace, None, First, Gives}
 use Rattle.refusal.specs.promise.Number.{numberOf}
-use Rattle.refusal.specs.parts.Found.{Finds, testedSaid, orOf, Joins}
+use Rattle.refusal.specs.parts.Found.{Finds, testedSaid, orOf, Joins, thenOf, Follows}
 use Rattle.refusal.specs.declared.Found.{Found}
 use Rattle.refusal.specs.declared.Found.the-variants.{At, Nowhere}
 use Rattle.refusal.specs.declared.Tested.{Tested}
@@ -135,6 +135,15 @@ gives-later rows more (Refused q) n g = first-right rows more (numberOf (q .kind
 
 pub later : (rows : List Row) {more : List Row} {r : Tested} → None rows → Given more r → Given (rows ++ more) r
 later rows {more} {r} n g = record { gives = gives-later rows more r n (g .gives) }
+
+-- what is said next is said of more rows
+gives-next : (rows more : List Row) (said next : Tested) → Gives rows (testedSaid said) → Gives more (testedSaid next) → Gives (rows ++ more) (testedSaid (thenOf said next))
+gives-next rows more Passed next n g = gives-later rows more next n g
+gives-next rows more (Refused q) next f g = first-left rows more (numberOf (q .kind)) (q .place) f
+
+pub and-then : {rows more : List Row} {said next r : Tested} → Follows said next r → Given rows said → Given more next → Given (rows ++ more) r
+and-then {rows} {more} {said} {next} e g h =
+    record { gives = subst (λ (t : Tested). Gives (rows ++ more) (testedSaid t)) (sym (e .is)) (gives-next rows more said next (g .gives) (h .gives)) }
 
 -- a refusal stays the first, whatever rows follow
 pub whatever : (more : List Row) {rows : List Row} {said : Tested} {q : Refusal} → said ≡ Refused q → Given rows said → First (rows ++ more) (numberOf (q .kind)) (q .place)

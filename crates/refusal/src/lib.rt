@@ -2,7 +2,7 @@
 ghost use mathlib.Core.Path.{_≡_};
 ghost use Prim.Native.Nat.{_+_, _<_};
 ghost use Rattle.refusal.specs.promise.Number.{numberOf, tableNumber, answerNumber, fileNumber};
-ghost use Rattle.refusal.specs.parts.Found.{Joins};
+ghost use Rattle.refusal.specs.parts.Found.{Joins, Follows};
 
 // What is wrong with a game's tables: 1 to 7, and 21 to 27 of the second game.
 pub enum TableFault {
@@ -94,6 +94,16 @@ pub fn or(said: Tested, found: Found, kind: Kind) -> Tested
         Found::At(place) => Tested::Refused(Refusal { kind, place }),
         Found::Nowhere => Tested::Passed,
     }
+}
+
+// What was said so far, or else what is said next.
+pub fn then(said: Tested, next: Tested) -> Tested
+    ensures { λ r. ⌜ Follows said next r ⌝ }
+{
+    if let Tested::Refused(r) = said {
+        return Tested::Refused(r);
+    }
+    next
 }
 
 fn of_table(fault: TableFault) -> u64

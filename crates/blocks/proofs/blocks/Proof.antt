@@ -23,13 +23,13 @@ vertices-requires : tie.Need-vertices-requires Inv-loop μ-loop
 vertices-requires c κs = omega (arith, c .before .pre .long)
 
 vertex-blocks-requires : tie.Need-vertex-blocks-requires Inv-loop μ-loop
-vertex-blocks-requires c κs = c .vertices .ensures .small
+vertex-blocks-requires c κs = search needs
 
 edges-requires : tie.Need-edges-requires Inv-loop μ-loop
 edges-requires c κs = omega (arith, c .before .before .before .pre .long)
 
 target-blocks-requires : tie.Need-target-blocks-requires Inv-loop μ-loop
-target-blocks-requires c κs = c .edges .ensures .small
+target-blocks-requires c κs = search needs
 
 add-total : tie.Need-add-total Inv-loop μ-loop
 add-total c = search needs

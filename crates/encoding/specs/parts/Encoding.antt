@@ -20,7 +20,7 @@ pub record Header (n m : ℕ) (part : List ℕ) : Type 0 where
 
 -- vertices from the first on, with room for a block
 pub record Run (owners priorities starts : List ℕ) (first : ℕ) (part : List ℕ) : Type 0 where
-  pub within : first ≤ length owners
+  pub low : first < 65536
   pub level : length priorities ≡ length owners
   pub bounds : length starts ≡ length owners + 1
   pub onward : (v : ℕ) → v < length owners → getD starts v 0 ≤ getD starts (v + 1) 0

@@ -30,6 +30,15 @@ orOf Passed Nowhere k = Passed
 pub record Joins (said : Tested) (found : Found) (kind : Kind) (r : Tested) : Type 0 where
   pub is : r ≡ orOf said found kind
 
+-- what was said, or else what is said next
+abbrev pub thenOf : Tested → Tested → Tested
+thenOf (Refused r) t = Refused r
+thenOf Passed t = t
+
+-- r is that
+pub record Follows (said next r : Tested) : Type 0 where
+  pub is : r ≡ thenOf said next
+
 -- a scan goes over the places from 0 on: it has passed those below i, and P holds at none of them
 pub record Scanned (P : ℕ → Type 0) (i : ℕ) : Type 0 where
   pub clear : (x : ℕ) → x < i → P x → ⊥

@@ -29,7 +29,7 @@ room c =
 
 -- it is one of the owners
 vertex : (c : tie.In-loop Inv-loop μ-loop) → c .before .loop .v < length (now (start (c .before .before) .args .owners))
-vertex c = let e = c .before .before in omega (arith, e .run-end .ensures, c .loop-test .taken, start e .pre .within)
+vertex c = let e = c .before .before in omega (arith, e .run-end .ensures, c .loop-test .taken)
 
 run-end-requires : tie.Need-run-end-requires Inv-loop μ-loop
 run-end-requires c κs = search needs

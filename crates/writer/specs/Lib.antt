@@ -1,0 +1,2 @@
+pub mod promise
+pub mod parts
