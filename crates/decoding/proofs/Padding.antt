@@ -10,7 +10,7 @@ use Rattle.game.specs.promise.Tables.{Tables, tablesOf}
 use Rattle.format.specs.promise.Filed.{verticesFiled, edgesFiled, filed}
 use Rattle.format.specs.parts.Tests.{FileSized}
 use Rattle.format.proofs.Lists.{owners-long, priorities-long, starts-long, targets-long}
-use Rattle.decoding.specs.promise.Holding.{Padded, Holding}
+use Rattle.decoding.specs.promise.Holding.{Padded, Holding, usedParts}
 
 pub padded-blank : (size : ℕ) → Padded size [] (replicate size 0)
 padded-blank size = record { long = length-replicate size 0; same = λ i. at i (decLt i size) }
@@ -37,7 +37,7 @@ padded-unique {size} {list} {a} {b} x y = ext-getD 0 a b (x .long ∙ sym (y .lo
 -- the tables as filed, read back from tables that hold them
 pub holding-take :
     {file : List ℕ} {n m : ℕ} {t : Tables} → FileSized file → n ≡ verticesFiled file → m ≡ edgesFiled file → Holding (filed file .tables) t →
-    tablesOf (take n (t .owners)) (take n (t .priorities)) (take (n + 1) (t .starts)) (take m (t .targets)) ≡ filed file .tables
+    usedParts n m t ≡ filed file .tables
 holding-take {file} {n} {m} sized en em h =
     let o = padded-take n (en ∙ sym (owners-long file)) (omega (arith, sized .few)) (h .owners) in
     let p = padded-take n (en ∙ sym (priorities-long file)) (omega (arith, sized .few)) (h .priorities) in

@@ -14,6 +14,10 @@ use Rattle.format.proofs.FileOf.{file-long}
 use Rattle.writer.specs.promise.Faults.{Fault46, writeRows}
 use Rattle.writer.proofs.Lengths.{fillable}
 
+-- well-formed tables are filed in an output of that length
+pub writable : (t : Tables) (output : List ℕ) → WellFormed t → length output ≡ length (fileOf (plain t)) → None (writeRows t output)
+writable t output well long = none-append (tableRows t) (row 46 (Fault46 t output) ∷ []) (none-applies t well) ((λ x f. f .wrong long), tt)
+
 module _ (t : Tables) (output : List ℕ) (bytes : (v : ℕ) → getD (t .priorities) v 0 < 256) where
   pub written-exactly-if : None (writeRows t output) ↔ (WellFormed t × (length output ≡ length (fileOf (plain t))))
   written-exactly-if = (there, back)
@@ -22,4 +26,4 @@ module _ (t : Tables) (output : List ℕ) (bytes : (v : ℕ) → getD (t .priori
       there none = let f = fillable t output bytes none in (f .well, f .long ∙ sym (file-long (plain t)))
 
       back : WellFormed t × (length output ≡ length (fileOf (plain t))) → None (writeRows t output)
-      back (well, long) = none-append (tableRows t) (row 46 (Fault46 t output) ∷ []) (none-applies t well) ((λ x f. f .wrong long), tt)
+      back (well, long) = writable t output well long

@@ -1,0 +1,3 @@
+-- theorems: what was written is read back; what was read is written back
+pub mod ReadBack
+pub mod WriteBack
