@@ -1,6 +1,6 @@
-//! The library's calls on full-size games of every family, as the benchmark measures them, and
-//! nothing else: a line for each family and call, milliseconds. bench/compare links it to two
-//! archives and puts them side by side.
+//! The library's calls on full-size games of every family and on the largest file, as the
+//! benchmark measures them, and nothing else: a line for each family and call, milliseconds.
+//! bench/compare links it to two archives and puts them side by side.
 
 // What the second program uses of these modules is more than what is used here.
 #[allow(dead_code)]
@@ -33,7 +33,7 @@ mod updates;
 
 use families::Family;
 use game::Tables;
-use library::Buffers;
+use library::{Buffers, Lent};
 use prng::Prng;
 use std::process::ExitCode;
 use timing::{median, Time};
@@ -42,7 +42,17 @@ use updates::{seldom_reached, with_other_owner};
 const GAMES: u64 = 3;
 const CALLS: [&str; 4] = ["solve", "check", "update, few reached", "update, any vertex"];
 
+/// A file of 84 blocks: 2,048 vertices and 16,384 edges.
+const LARGEST: &[u8] = include_bytes!("../tests/listing/largest_84_blocks.game");
+
 fn main() -> ExitCode {
+    match median(&mut Lent::new(), Lent::spoil, |lent| lent.read(LARGEST)) {
+        Ok(time) => println!("the largest file;read;{time:.4}"),
+        Err(what) => {
+            println!("read: {what}");
+            return ExitCode::FAILURE;
+        }
+    }
     for family in families::ALL {
         match figures(family) {
             Ok(times) => {

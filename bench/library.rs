@@ -80,6 +80,32 @@ impl Lent {
         let Lent { owners, priorities, starts, targets } = self;
         succeeded(ffi::read(file, owners, priorities, starts, targets)).map(drop)
     }
+
+    /// What a file that fills the tables has left in them.
+    pub fn filled(self) -> Tables {
+        let Lent { owners, priorities, starts, targets } = self;
+        Tables { owners, priorities, starts, targets }
+    }
+}
+
+/// The writer's output.
+pub struct Output {
+    file: Vec<u8>,
+}
+
+impl Output {
+    pub fn new(length: usize) -> Self {
+        Output { file: vec![0; length] }
+    }
+
+    /// Fills it with content that is no file's.
+    pub fn spoil(&mut self) {
+        self.file.fill(0xA5);
+    }
+
+    pub fn write(&mut self, game: &Tables) -> Result<(), String> {
+        succeeded(ffi::write(game.view(), &mut self.file)).map(drop)
+    }
 }
 
 fn succeeded(said: Said) -> Result<u64, String> {

@@ -46,7 +46,7 @@ mod updates;
 
 use families::Family;
 use game::{Answer, Tables};
-use library::{Buffers, Lent};
+use library::{Buffers, Lent, Output};
 use prng::Prng;
 use std::process::ExitCode;
 use timing::{median, median_within, Time};
@@ -101,10 +101,13 @@ fn main() -> ExitCode {
             }
         }
     }
-    match median(&mut Lent::new(), Lent::spoil, |lent| lent.read(LARGEST)) {
-        Ok(time) => println!("\nread, the largest file: {time}"),
+    match largest_file() {
+        Ok((read, write)) => println!(
+            "\nthe largest file: read {read:.3}, write {write:.3}, write / read {:.2}",
+            write.over(read)
+        ),
         Err(what) => {
-            println!("read: {what}");
+            println!("the largest file: {what}");
             return ExitCode::FAILURE;
         }
     }
@@ -114,6 +117,16 @@ fn main() -> ExitCode {
         return ExitCode::FAILURE;
     }
     ExitCode::SUCCESS
+}
+
+/// Read, and written from what was read.
+fn largest_file() -> Result<(Time, Time), String> {
+    let mut lent = Lent::new();
+    let read = median(&mut lent, Lent::spoil, |lent| lent.read(LARGEST))?;
+    let game = lent.filled();
+    let mut output = Output::new(LARGEST.len());
+    let write = median(&mut output, Output::spoil, |output| output.write(&game))?;
+    Ok((read, write))
 }
 
 fn row(family: Family) -> Result<String, String> {

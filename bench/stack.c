@@ -1,6 +1,6 @@
 // How much stack a call of the library takes, on x86-64: each entry point is called on a stack of its own that was filled with one byte
-// before, and what still holds that byte afterwards was not used. A game file comes on standard input; its game is read, solved, checked
-// and updated to itself with vertex 0 given to the other player.
+// before, and what still holds that byte afterwards was not used. A game file comes on standard input; its game is read, written, solved,
+// checked and updated to itself with vertex 0 given to the other player.
 #include "../include/zoetelkorf.h"
 
 // The C library's, declared here: the kit's compiler comes without its headers.
@@ -19,6 +19,10 @@ static uint64_t number, value;
 
 static void read_file(void) {
     number = zoetelkorf_read(file, length, owners, 2048, priorities, 2048, starts, 2049, targets, 16384, &value);
+}
+
+static void write_file(void) {
+    number = zoetelkorf_write(owners, n, priorities, n, starts, n + 1, targets, m, file, ZOETELKORF_FILE_LENGTH(n, m), &value);
 }
 
 static void solve(void) {
@@ -55,5 +59,5 @@ int main(void) {
     m = value / 65536;
     memcpy(owners2, owners, n);
     owners2[0] = 1 - owners2[0];
-    return !(measure("solve", solve) && measure("check", check) && measure("update", update));
+    return !(measure("write", write_file) && measure("solve", solve) && measure("check", check) && measure("update", update));
 }

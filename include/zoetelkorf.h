@@ -52,12 +52,16 @@ enum zoetelkorf_refusal {
     ZOETELKORF_SECOND_ORDER = 27,    /* as ZOETELKORF_ORDER */
 
     /* a house game file */
-    ZOETELKORF_FILE_LENGTH = 41, /* it is shorter than a block, or not as long as block 0 says: how many whole blocks there are */
+    ZOETELKORF_FILE_SIZE = 41,   /* it is shorter than a block, or not as long as block 0 says: how many whole blocks there are */
     ZOETELKORF_FILE_CHECK = 42,  /* a block's check does not hold, so its bytes are damaged: the block */
     ZOETELKORF_FILE_KIND = 43,   /* a block's number or kind is not the one due there: the block */
     ZOETELKORF_FILE_BYTES = 44,  /* a block's used count, rule, or a byte that should be 0 is wrong: the block */
-    ZOETELKORF_FILE_EDGES = 45   /* the vertices' numbers of successors do not add up to the number of edges */
+    ZOETELKORF_FILE_EDGES = 45,  /* the vertices' numbers of successors do not add up to the number of edges */
+    ZOETELKORF_FILE_OUTPUT = 46  /* the output is not as long as the file that would be written: ZOETELKORF_FILE_LENGTH */
 };
+
+/* The exact length in bytes of the file of a game with n vertices and so many edges; 43,008 is the most. */
+#define ZOETELKORF_FILE_LENGTH(n, edges) (512 * (1 + ((n) + 125) / 126 + ((edges) + 251) / 252))
 
 /* Whether winners and moves are right for the game; *value 0 on acceptance. */
 uint64_t zoetelkorf_check(const uint8_t *owners, size_t owners_len, const uint8_t *priorities, size_t priorities_len,
@@ -85,6 +89,12 @@ uint64_t zoetelkorf_update(const uint8_t *owners, size_t owners_len, const uint8
 uint64_t zoetelkorf_read(const uint8_t *file, size_t file_len, uint8_t *owners, size_t owners_len,
                          uint8_t *priorities, size_t priorities_len, uint16_t *starts, size_t starts_len,
                          uint16_t *targets, size_t targets_len, uint64_t *value);
+
+/* Writes the house game file of the tables, by rule 0 (the highest priority counts), into an output of just ZOETELKORF_FILE_LENGTH(n, edges)
+ * bytes; *value is that length. Of tables that zoetelkorf_read filled pass the used parts: n, n, n + 1 and edges elements. */
+uint64_t zoetelkorf_write(const uint8_t *owners, size_t owners_len, const uint8_t *priorities, size_t priorities_len,
+                          const uint16_t *starts, size_t starts_len, const uint16_t *targets, size_t targets_len,
+                          uint8_t *file, size_t file_len, uint64_t *value);
 
 #ifdef __cplusplus
 }

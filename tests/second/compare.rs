@@ -155,6 +155,36 @@ pub fn read_in(file: &[u8], room: [usize; 4], rng: &mut Prng) -> Compared<Tables
     compare().map_err(|what: String| format!("read: {what}\ntables of {room:?}\nfile {file:?}"))
 }
 
+/// The writer with an output that fits; on success the file.
+pub fn write(game: &Tables, rng: &mut Prng) -> Compared<Vec<u8>> {
+    write_in(game, housefile::length(game.n(), game.targets.len()), rng)
+}
+
+pub fn write_in(game: &Tables, room: usize, rng: &mut Prng) -> Compared<Vec<u8>> {
+    let due = housefile::write(game, room);
+    let lent = LentTables::with(game);
+    let mut file = Lent::any(room, rng);
+    let said = ffi::write(lent.view(), file.get_mut());
+    let compare = || {
+        lent.unchanged()?;
+        let bytes = match due {
+            Ok(ref bytes) => bytes,
+            Err(fault) => {
+                expect(said, Some(fault), 0)?;
+                file.unchanged("the output")?;
+                return Ok(Err(fault));
+            }
+        };
+        expect(said, None, bytes.len() as u64)?;
+        file.ends_unchanged("the output")?;
+        match (0..bytes.len()).find(|&i| file.get()[i] != bytes[i]) {
+            Some(i) => Err(format!("byte {i} is {}, not {}", file.get()[i], bytes[i])),
+            None => Ok(Ok(bytes.clone())),
+        }
+    };
+    compare().map_err(|what: String| format!("write: {what}\noutput of {room} bytes\n{game:?}"))
+}
+
 /// The buffers that solver and update write.
 struct Written {
     winners: Lent<u8>,

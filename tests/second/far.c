@@ -22,8 +22,9 @@ u64 zoetelkorf_update(GAME(first), GAME(second), BYTES(old_winners), WORDS(old_m
                       BYTES(winners), WORDS(moves), WORDS(work), u64 *value);
 u64 zoetelkorf_read(BYTES(file), BYTES(owners), BYTES(priorities), WORDS(starts), WORDS(targets),
                     u64 *value);
+u64 zoetelkorf_write(GAME(game), BYTES(file), u64 *value);
 
-enum { CHECK, SOLVE, UPDATE, READ };
+enum { CHECK, SOLVE, UPDATE, READ, WRITE };
 enum { SLICES = 13, ROOM = 1 << 22, GUARD = 64, CANARY = 0xA7 };
 
 // A call: its length in bytes, then function, value, number of slices, each slice's length in
@@ -61,7 +62,8 @@ static u64 call(u64 function, u64 *value) {
     case CHECK: return zoetelkorf_check(G(0), B(4), W(5), W(6), value);
     case SOLVE: return zoetelkorf_solve(G(0), B(4), W(5), W(6), value);
     case UPDATE: return zoetelkorf_update(G(0), G(4), B(8), W(9), B(10), W(11), W(12), value);
-    default: return zoetelkorf_read(B(0), B(1), B(2), W(3), W(4), value);
+    case READ: return zoetelkorf_read(B(0), B(1), B(2), W(3), W(4), value);
+    default: return zoetelkorf_write(G(0), B(4), value);
     }
 }
 

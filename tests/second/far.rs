@@ -12,6 +12,7 @@ const CHECK: u64 = 0;
 const SOLVE: u64 = 1;
 const UPDATE: u64 = 2;
 const READ: u64 = 3;
+const WRITE: u64 = 4;
 
 enum Slice<'a> {
     Bytes(&'a [u8]),
@@ -82,6 +83,11 @@ pub fn read(
             WordsOut(targets),
         ],
     )
+}
+
+pub fn write(game: View, file: &mut [u8]) -> Said {
+    let [owners, priorities, starts, targets] = slices(game);
+    call(WRITE, vec![owners, priorities, starts, targets, BytesOut(file)])
 }
 
 fn slices(game: View<'_>) -> [Slice<'_>; 4] {

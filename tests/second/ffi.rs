@@ -37,6 +37,11 @@ extern "C" {
         starts: *mut u16, starts_length: usize, targets: *mut u16, targets_length: usize,
         value: *mut u64,
     ) -> u64;
+    fn zoetelkorf_write(
+        owners: *const u8, owners_length: usize, priorities: *const u8, priorities_length: usize,
+        starts: *const u16, starts_length: usize, targets: *const u16, targets_length: usize,
+        file: *mut u8, file_length: usize, value: *mut u64,
+    ) -> u64;
 }
 
 #[rustfmt::skip]
@@ -110,6 +115,22 @@ pub fn read(
             owners.as_mut_ptr(), owners.len(), priorities.as_mut_ptr(), priorities.len(),
             starts.as_mut_ptr(), starts.len(), targets.as_mut_ptr(), targets.len(),
             &mut value,
+        )
+    };
+    Said { number, value }
+}
+
+#[rustfmt::skip]
+pub fn write(game: View, file: &mut [u8]) -> Said {
+    let mut value = UNWRITTEN;
+    // SAFETY: as in `check`.
+    let number = unsafe {
+        zoetelkorf_write(
+            game.owners.as_ptr(), game.owners.len(),
+            game.priorities.as_ptr(), game.priorities.len(),
+            game.starts.as_ptr(), game.starts.len(),
+            game.targets.as_ptr(), game.targets.len(),
+            file.as_mut_ptr(), file.len(), &mut value,
         )
     };
     Said { number, value }

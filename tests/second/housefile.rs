@@ -1,7 +1,8 @@
-//! The house game file: a maker, which also makes files that break the rules, and a reader.
+//! The house game file: a maker, which also makes files that break the rules, a reader, and what
+//! a writer must say.
 
 use crate::game::{Tables, MOST_EDGES, MOST_VERTICES};
-use crate::judge::Fault;
+use crate::judge::{self, Fault};
 
 pub const BLOCK: usize = 512;
 const PAYLOAD: usize = 6;
@@ -66,6 +67,22 @@ impl Filing {
         }
         file
     }
+}
+
+/// The exact length of a file.
+pub fn length(n: usize, edges: usize) -> usize {
+    BLOCK * (1 + n.div_ceil(VERTICES_A_BLOCK) + edges.div_ceil(TARGETS_A_BLOCK))
+}
+
+/// What the writer must say of these tables when its output has this length: the file, or the
+/// refusal.
+pub fn write(game: &Tables, room: usize) -> Result<Vec<u8>, Fault> {
+    if let Some(fault) = judge::tables(game) {
+        return Err(fault);
+    }
+    let file = Filing::of(game, 0).bytes();
+    refuse(46, 0, room != file.len())?;
+    Ok(file)
 }
 
 fn push_block(file: &mut Vec<u8>, kind: u8, payload: &[u8]) {

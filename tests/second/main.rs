@@ -1,6 +1,6 @@
 //! The second program: it shares nothing with the library, makes inputs from fixed seeds, calls the
 //! library's C interface and compares what comes out with its own solver (Zielonka's method), its
-//! own judge and its own reader of house files.
+//! own judge and its own reader and maker of house files.
 
 mod amend;
 mod compare;

@@ -9,4 +9,5 @@ pub mod Amends
 pub mod Updated
 pub mod Table
 pub mod Refused
+pub mod Written
 pub mod ShutOut

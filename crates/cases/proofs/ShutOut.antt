@@ -13,6 +13,7 @@ use Rattle.cases.proofs.Answers.{answered}
 use Rattle.cases.proofs.Solved.{answer-allowed}
 use Rattle.cases.proofs.Table.{row-holds}
 use Rattle.cases.proofs.Refused.{read-255}
+use Rattle.cases.proofs.Written.{write-A, write-A-46}
 
 -- what is not so of the one outcome that P allows is shut out
 shut : {X : Type 0} {P : X → Type 0} {a : X} (Q : X → Type 0) → Only P a → ¬ Q a → ShutOut P Q
@@ -50,6 +51,9 @@ wrong-programs =
       follows-a-choice = λ lent f. shut _ (row-holds (updated A2 A answerA answerA 3) tt lent f) (λ q. let z : _≡_ {A = ℕ} 3 1 = cc in omega arith);
       tests-turned = λ lent. shut _ (read-255 lent) (λ q. q);
       writes-refused = λ lent. shut _ (read-255 lent) (λ q. q refl);
+      never-writes = λ output e. shut _ (write-A output e) (λ q. q);
+      leaves-the-output = λ output e h. shut _ (write-A output e) (λ q. h (sym q));
+      writes-at-46 = λ output h. shut _ (write-A-46 output h) (λ q. q refl);
     }
   where
     solvedA : RowHolds (solved A answerA)

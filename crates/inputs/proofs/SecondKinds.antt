@@ -1,37 +1,31 @@
 -- A refusal with a number below 8 is one of a game's tables; the second game's are those, 20 higher.
-use Prim.Native.Nat.{ℕ, _+_, _<_}
+use Prim.Native.Nat.{ℕ, zero, suc, _+_, _<_}
 use mathlib.Core.Path.{_≡_, refl, sym, ap, _∙_}
 use native.Mathlib.Omega.{arith}
 use Rattle.refusal.specs.promise.Number.{numberOf}
+use Rattle.refusal.proofs.Numbers.{number-injective, number-some}
 use Rattle.refusal.specs.declared.TableFault.{TableFault}
-use Rattle.refusal.specs.declared.AnswerFault.{AnswerFault}
-use Rattle.refusal.specs.declared.AnswerFault.the-variants as answer
-use Rattle.refusal.specs.declared.FileFault.{FileFault}
-use Rattle.refusal.specs.declared.FileFault.the-variants as file
+use Rattle.refusal.specs.declared.TableFault.the-variants as table
 use Rattle.refusal.specs.declared.Kind.{Kind}
-use Rattle.refusal.specs.declared.Kind.the-variants.{Game, Buffer, Vertices, Claim, Second, Filed}
+use Rattle.refusal.specs.declared.Kind.the-variants.{Game, Second}
 
-not-claim : (f : AnswerFault) → numberOf (Claim f) < 8 → ⊥
-not-claim answer.Mark l = omega arith
-not-claim answer.Move l = omega arith
-not-claim answer.Escape l = omega arith
-not-claim answer.Cycle l = omega arith
-
-not-filed : (f : FileFault) → numberOf (Filed f) < 8 → ⊥
-not-filed file.Length l = omega arith
-not-filed file.Check l = omega arith
-not-filed file.Kind l = omega arith
-not-filed file.Bytes l = omega arith
-not-filed file.Edges l = omega arith
-
--- which one
+-- which one, by the number: kinds that are added later have others
 table-of : (k : Kind) → numberOf k < 8 → (f : TableFault) × (k ≡ Game f)
-table-of (Game f) l = (f, refl)
-table-of Buffer l = absurd (omega arith)
-table-of Vertices l = absurd (omega arith)
-table-of (Claim f) l = absurd (not-claim f l)
-table-of (Second f) l = absurd (omega arith)
-table-of (Filed f) l = absurd (not-filed f l)
+table-of k = at (numberOf k) refl
+  where
+    is : (f : TableFault) → numberOf k ≡ numberOf (Game f) → (f : TableFault) × (k ≡ Game f)
+    is f e = (f, number-injective k (Game f) e)
+
+    at : (i : ℕ) → numberOf k ≡ i → i < 8 → (f : TableFault) × (k ≡ Game f)
+    at zero e l = absurd (number-some k e)
+    at (suc zero) e l = is table.Sizes e
+    at (suc (suc zero)) e l = is table.Owner e
+    at (suc (suc (suc zero))) e l = is table.Priority e
+    at (suc (suc (suc (suc zero)))) e l = is table.Start e
+    at (suc (suc (suc (suc (suc zero))))) e l = is table.Stuck e
+    at (suc (suc (suc (suc (suc (suc zero)))))) e l = is table.Target e
+    at (suc (suc (suc (suc (suc (suc (suc zero))))))) e l = is table.Order e
+    at (suc (suc (suc (suc (suc (suc (suc (suc i)))))))) e l = absurd (let z : ⊥ = omega arith in z)
 
 pub second-number : (k r : Kind) → ((f : TableFault) → k ≡ Game f → r ≡ Second f) → numberOf k < 8 → numberOf r ≡ 20 + numberOf k
 second-number k r h l =

@@ -2,6 +2,7 @@
 use Prim.Native.Nat.{ℕ}
 use mathlib.Core.Path.{_≡_, refl, sym, ap, ap₂, _∙_}
 use mathlib.Core.List.{List, [], _∷_, map, _++_}
+use native.Mathlib.Omega.{arith}
 use lib.ListN.{getD}
 use Rattle.refusal.specs.promise.Number.{numberOf, saidOf}
 use Rattle.refusal.specs.declared.TableFault.{TableFault}
@@ -59,6 +60,14 @@ kind-at (Filed file.Output) = refl
 -- a number names one kind
 pub number-injective : (k l : Kind) → numberOf k ≡ numberOf l → k ≡ l
 number-injective k l e = sym (kind-at k) ∙ ap (λ (m : ℕ). getD kinds m Buffer) e ∙ kind-at l
+
+-- 0 is no kind's number
+pub number-some : (k : Kind) → ¬ (numberOf k ≡ 0)
+unfolding faults kinds
+number-some k e =
+    let b : k ≡ Buffer = sym (kind-at k) ∙ ap (λ (m : ℕ). getD kinds m Buffer) e in
+    let n : numberOf k ≡ 8 = ap numberOf b in
+    omega arith
 
 -- a refusal is known by its number and place
 pub refusal-unique : (q r : Refusal) → saidOf q ≡ saidOf r → q ≡ r

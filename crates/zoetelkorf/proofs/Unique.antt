@@ -12,7 +12,8 @@ use Rattle.solver.proofs.Unique.{Same, solves-unique}
 use Rattle.inputs.specs.promise.Inputs.{Input}
 use Rattle.update.proofs.Unique.{Alike, updates-unique}
 use Rattle.housefile.proofs.Determined.{determined}
-use Rattle.zoetelkorf.specs.promise.Calls.{ChecksBy, SolvesBy, UpdatesBy, ReadsBy}
+use Rattle.writer.proofs.Determined as written
+use Rattle.zoetelkorf.specs.promise.Calls.{ChecksBy, SolvesBy, UpdatesBy, ReadsBy, WritesBy}
 use Rattle.told.specs.promise.Told.{numberSaid, valueSaid, Told}
 
 -- what is said alike is told alike
@@ -45,4 +46,11 @@ pub read-unique :
     ((k ≡ l) × (x ≡ y)) × (after1 ≡ after2)
 read-unique file before after1 after2 k x l y a b =
     let u = determined file before after1 after2 (a .said) (b .said) (a .promise) (b .promise) in
+    (told-unique a b (u .0), u .1)
+
+pub write-unique :
+    (t : Tables) (before after1 after2 : List ℕ) (k x l y : ℕ) → WritesBy t before after1 k x → WritesBy t before after2 l y →
+    ((k ≡ l) × (x ≡ y)) × (after1 ≡ after2)
+write-unique t before after1 after2 k x l y a b =
+    let u = written.determined t before after1 after2 (a .said) (b .said) (a .promise) (b .promise) in
     (told-unique a b (u .0), u .1)

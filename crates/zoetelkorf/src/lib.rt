@@ -10,10 +10,12 @@ use told::refused;
 use told::sizes;
 use update::Updated;
 use update::update;
+use writer::Written;
+use writer::write;
 ghost use Rattle.game.specs.promise.Lent.{lent, written};
 ghost use Rattle.storage.specs.promise.Lent.{claimed, given, left};
 ghost use Rattle.inputs.specs.promise.Inputs.{inputOf};
-ghost use Rattle.zoetelkorf.specs.promise.Calls.{ChecksBy, SolvesBy, UpdatesBy, ReadsBy};
+ghost use Rattle.zoetelkorf.specs.promise.Calls.{ChecksBy, SolvesBy, UpdatesBy, ReadsBy, WritesBy};
 
 #[no_mangle]
 pub extern "C" fn zoetelkorf_check(
@@ -116,6 +118,27 @@ pub extern "C" fn zoetelkorf_read(
         Read::Refused(r) => refused(r, value),
         Read::Game(h) => {
             *value = sizes(h.vertices, h.edges);
+            0
+        }
+    }
+}
+
+#[no_mangle]
+pub extern "C" fn zoetelkorf_write(
+    owners: &[u8],
+    priorities: &[u8],
+    starts: &[u16],
+    targets: &[u16],
+    file: &mut [u8],
+    value: &mut u64,
+) -> u64
+    ensures { λ n. ⌜ WritesBy (lent owners priorities starts targets) (now (file .entry)) (now (file .exit)) n (now (value .exit)) ⌝ }
+{
+    let written = write(owners, priorities, starts, targets, file);
+    match written {
+        Written::Refused(r) => refused(r, value),
+        Written::File(bytes) => {
+            *value = bytes as u64;
             0
         }
     }

@@ -8,6 +8,7 @@ mod full;
 mod paper;
 mod small;
 mod tables;
+mod writing;
 
 use crate::families;
 use crate::group::Group;
@@ -46,6 +47,10 @@ pub fn all() -> Vec<Named> {
         named("files with faults of every number, alone and together", files::faulty),
         named("files with one to three bytes changed", files::damaged),
         named("files cut and stretched", files::cut),
+        named("files written, by the maker's bytes, and read back", writing::good),
+        named("files read and written back", writing::back),
+        named("malformed tables for the writer", writing::malformed),
+        named("outputs of wrong lengths", writing::outputs),
     ]);
     groups
 }

@@ -8,8 +8,9 @@ use Rattle.refusal.specs.promise.Row.{Said, success, refused}
 use Rattle.game.specs.promise.Tables.{Tables}
 use Rattle.storage.specs.promise.Lent.{Lent}
 use Rattle.winning.specs.promise.Answer.{noMove}
-use Rattle.format.specs.promise.Format.{fileOf}
+use Rattle.format.specs.promise.Format.{fileOf, plain}
 use Rattle.housefile.specs.promise.Reading.{Reads}
+use Rattle.writer.specs.promise.Writing.{Writes}
 use Rattle.cases.specs.promise.Games.{A, B, game8, game9, loopOf, A2, chain, chain1, free, free1}
 use Rattle.cases.specs.promise.Table.{line, answerA, Fits, outcome, Solving, Checking, Updating, zeros}
 
@@ -43,6 +44,19 @@ Reading file lent o = Reads file lent (o .left) (o .said)
 -- the file of a loop with priority 255 under rule 1, which would turn it to 0
 abbrev pub file255 : List ℕ
 file255 = fileOf (record { tables = loopOf 255; rule = 1 })
+
+-- what comes out of the writer: what is said, and what the output holds
+pub record Put : Type 0 where
+  pub said : Said
+  pub left : List ℕ
+
+-- such an outcome, in this order
+abbrev pub put : Said → List ℕ → Put
+put said left = record { said = said; left = left }
+
+-- the promise of `write` on these tables and this output
+abbrev pub Writing : Tables → (output : List ℕ) → Put → Type 0
+Writing t output o = Writes t output (o .left) (o .said)
 
 -- each wrong program, shut out
 pub record WrongPrograms : Type 0 where
@@ -90,3 +104,9 @@ pub record WrongPrograms : Type 0 where
   -- a reader that tests priorities once they are turned, and one that writes tables before a file is refused
   pub tests-turned : (lent : Tables) → ShutOut (Reading file255 lent) (λ o. IsSuccess (o .said))
   pub writes-refused : (lent : Tables) → ShutOut (Reading file255 lent) (λ o. o .left ≢ lent)
+  -- a writer that always refuses, and one that leaves an output as it was that is not the file by chance: A, three blocks
+  pub never-writes : (output : List ℕ) → length output ≡ 1536 → ShutOut (Writing A output) (λ o. IsRefusal (o .said))
+  pub leaves-the-output :
+      (output : List ℕ) → length output ≡ 1536 → output ≢ fileOf (plain A) → ShutOut (Writing A output) (λ o. o .left ≡ output)
+  -- a writer that puts something into an output of another length
+  pub writes-at-46 : (output : List ℕ) → length output ≢ 1536 → ShutOut (Writing A output) (λ o. o .left ≢ output)

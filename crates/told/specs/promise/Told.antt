@@ -9,7 +9,7 @@ abbrev pub numberSaid : Said → ℕ
 numberSaid (success values) = 0
 numberSaid (refused number place) = number
 
--- the value of a success: 0 (check, solve), the count (update), edges × 65,536 + n (read)
+-- the value of a success: 0 (check, solve), the count (update), the bytes (write), edges × 65,536 + n (read)
 abbrev pub valueOf : List ℕ → ℕ
 valueOf [] = 0
 valueOf (a ∷ []) = a

@@ -1,4 +1,4 @@
--- The promises of the four calls of the C interface, and below them an index of what they rest on.
+-- The promises of the five calls of the C interface, and below them an index of what they rest on.
 use Prim.Native.Nat.{ℕ}
 use mathlib.Core.List.{List}
 use Rattle.game.specs.promise.Tables.{Tables}
@@ -9,6 +9,7 @@ use Rattle.solver.specs.promise.Solving.{Solves}
 use Rattle.update.specs.promise.Updating.{Updates}
 use Rattle.inputs.specs.promise.Inputs.{Input}
 use Rattle.housefile.specs.promise.Reading.{Reads}
+use Rattle.writer.specs.promise.Writing.{Writes}
 use Rattle.told.specs.promise.Told.{Told}
 
 -- `zoetelkorf_check`
@@ -26,6 +27,10 @@ UpdatesBy i before after = Told (Updates i before after)
 -- `zoetelkorf_read`
 abbrev pub ReadsBy : (file : List ℕ) → (before after : Tables) (number value : ℕ) → Type 0
 ReadsBy file before after = Told (Reads file before after)
+
+-- `zoetelkorf_write`
+abbrev pub WritesBy : Tables → (before after : List ℕ) (number value : ℕ) → Type 0
+WritesBy t before after = Told (Writes t before after)
 
 -- Index: the files of the folders `specs/promise` are what these promises rest on, read upwards:
 --   player    Player      players, parity
@@ -53,5 +58,7 @@ ReadsBy file before after = Told (Reads file before after)
 --   decoding  Holding     what tables of the fixed sizes hold
 --   housefile Faults      8 on the lent tables, behind the file's rows
 --   housefile Reading     `read`
+--   writer    Faults      46 on the lent output, behind the tables' rows
+--   writer    Writing     `write`
 --   told      Told        number and value of what is said
 -- All other files under `specs`, in the folders `specs/parts`, say what internal functions ask of one another.
