@@ -7,17 +7,17 @@ ghost use lib.ListN.{length};
 ghost use Rattle.format.specs.promise.Format.{checkOf};
 ghost use Rattle.format.specs.promise.Filed.{byteAt};
 ghost use Rattle.format.specs.parts.Put.{Put, wordByte};
-ghost use Rattle.encoding.specs.parts.Encoding.{nameByte, zeroByte};
+ghost use Rattle.encoding.specs.parts.Encoding.{Words, nameByte, zeroByte};
 
 // Number, kind, zero, used count.
-pub fn name(part: &mut [u8], b: u16, kind: u8, used: u16)
-    requires { ⌜ length (now part) ≡ 512 ⌝ }
+pub fn name(part: &mut [u8], b: usize, kind: u8, used: usize)
+    requires { ⌜ Words b used (now part) ⌝ }
     ensures { λ _. ⌜ Put 0 6 (nameByte b kind used) (now (part .entry)) (now (part .exit)) ⌝ }
 {
-    set_word(part, 0, b);
+    set_word(part, 0, b as u16);
     part[2] = kind;
     part[3] = 0;
-    set_word(part, 4, used);
+    set_word(part, 4, used as u16);
 }
 
 // Zeros from here up to the check.

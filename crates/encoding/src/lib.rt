@@ -27,7 +27,7 @@ pub fn block(
 {
     let n = owners.len();
     let used = used_of(n, targets.len(), b);
-    name(part, b as u16, kind_of(n, b), used as u16);
+    name(part, b, kind_of(n, b), used);
     payload(owners, priorities, starts, targets, b, part);
     clear(part, 6 + used);
     seal(part);

@@ -9,11 +9,11 @@ ghost use Rattle.game.specs.promise.Tables.{tablesOf};
 ghost use Rattle.game.specs.promise.Lent.{asked, lent};
 ghost use Rattle.format.specs.promise.Format.{plain, usedOf, bodyByte};
 ghost use Rattle.format.specs.parts.Put.{Put};
-ghost use Rattle.encoding.specs.parts.Encoding.{Encodes, Header, Run, headAt, vertexAt, targetAt};
+ghost use Rattle.encoding.specs.parts.Encoding.{Encodes, Words, Run, headAt, vertexAt, targetAt};
 
 // n, the number of edges, and rule 0.
 fn header(owners: &[u8], targets: &[u16], part: &mut [u8])
-    requires { ⌜ Header (length (now owners)) (length (now targets)) (now part) ⌝ }
+    requires { ⌜ Words (length (now owners)) (length (now targets)) (now part) ⌝ }
     ensures { λ _. ⌜ Put 6 11 (headAt (plain (tablesOf (now (owners .entry)) [] [] (now (targets .entry))))) (now (part .entry)) (now (part .exit)) ⌝ }
 {
     set_word(part, 6, owners.len() as u16);

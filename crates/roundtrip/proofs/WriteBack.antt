@@ -6,8 +6,8 @@ use lib.ListN.{length, getD}
 use Rattle.refusal.specs.promise.Row.{Said, success, refused, None}
 use Rattle.refusal.proofs.Rows.{first-not-none}
 use Rattle.game.specs.promise.Tables.{Tables, tablesOf, WellFormed}
-use Rattle.format.specs.promise.Format.{Filing, fileOf, plain, turnedOf}
-use Rattle.format.specs.promise.Filed.{verticesFiled, edgesFiled, ruleFiled, ownersFiled, prioritiesFiled, startsFiled, targetsFiled, filed, tablesFiled}
+use Rattle.format.specs.promise.Format.{fileOf, plain, turnedOf}
+use Rattle.format.specs.promise.Filed.{ruleFiled, ownersFiled, prioritiesFiled, startsFiled, targetsFiled, filed, tablesFiled}
 use Rattle.format.specs.promise.Faults.{judgedRows}
 use Rattle.format.proofs.AllRows.{all-sized}
 use Rattle.filing.proofs.Accepted.{filed-well-formed}

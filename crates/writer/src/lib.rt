@@ -57,7 +57,14 @@ fn fill(owners: &[u8], priorities: &[u8], starts: &[u16], targets: &[u16], file:
     while b < blocks {
         let from = 512 * b;
         let upto = from + 512;
-        block(owners, priorities, starts, targets, b, &mut file[from..upto]);
+        block(
+            owners,
+            priorities,
+            starts,
+            targets,
+            b,
+            &mut file[from..upto],
+        );
         b += 1;
     }
 }

@@ -39,17 +39,11 @@ body c =
 used-of-requires : tie.Need-used-of-requires
 used-of-requires c κs = search needs
 
-cast-name : tie.Need-cast-name
-cast-name c = search needs
-
 kind-of-requires : tie.Need-kind-of-requires
 kind-of-requires c κs = search needs
 
-cast-name-2 : tie.Need-cast-name-2
-cast-name-2 c = omega (arith, few (c .before .before))
-
 name-requires : tie.Need-name-requires
-name-requires c κs = search needs
+name-requires c κs = let u = c .before .before in record { first = search needs; second = omega (arith, few u); long = start u .pre .long }
 
 payload-requires : tie.Need-payload-requires
 payload-requires c κs =
@@ -80,9 +74,7 @@ block-spec =
     tie.close
     (tie.spec
     used-of-requires
-    cast-name
     kind-of-requires
-    cast-name-2
     name-requires
     payload-requires
     add-clear

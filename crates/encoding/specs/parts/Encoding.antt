@@ -12,10 +12,10 @@ pub record Encodes (t : Tables) (b : ℕ) (part : List ℕ) : Type 0 where
   pub counted : b < blocksOf (vertices t) (length (t .targets))
   pub long : length part ≡ 512
 
--- sizes that two bytes hold, and room for a block
-pub record Header (n m : ℕ) (part : List ℕ) : Type 0 where
-  pub vertices : n < 65536
-  pub edges : m < 65536
+-- two numbers, each of which two bytes hold, and room for a block
+pub record Words (x y : ℕ) (part : List ℕ) : Type 0 where
+  pub first : x < 65536
+  pub second : y < 65536
   pub long : length part ≡ 512
 
 -- vertices from the first on, with room for a block

@@ -1,10 +1,8 @@
 -- `writer::fill` meets its contract. Invariant `Blocks`: the blocks before this one stand in the output.
 -- Assumes nothing.
-use Prim.Native.Nat.{_+_, _-_, _*_, _/_, _<_, _≤_}
-use mathlib.Core.Path.{_∙_}
+use Prim.Native.Nat.{_-_, _<_}
 use native.Mathlib.Omega.{arith}
 use lib.ListN.{length}
-use denote.Ref.{now}
 use Rattle.game.specs.promise.Tables.{Tables, tablesOf, vertices}
 use Rattle.game.specs.promise.Lent.{asked}
 use Rattle.format.specs.promise.Format.{plain, blocksOf}

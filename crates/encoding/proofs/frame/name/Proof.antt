@@ -18,7 +18,10 @@ start c = c .before .before .before .before .before .before
 done : (c : tie.After-slice-known3) → let a = start (c .before .before .before) .args in Put 0 6 (nameByte (a .b) (a .kind) (a .used)) (now (a .part)) (c .before .before .set-word2 .last .0)
 done c =
     let s = start (c .before .before .before) in
-    put-name _ _ _ (s .pre) (c .before .before .before .before .before .before .set-word .ensures) (c .before .before .set-word2 .ensures)
+    put-name _ _ _ (s .pre .long) (c .before .before .before .before .before .before .set-word .ensures) (c .before .before .set-word2 .ensures)
+
+cast-set-word : tie.Need-cast-set-word
+cast-set-word c = search needs
 
 set-word-requires : tie.Need-set-word-requires
 set-word-requires c κs = search needs
@@ -29,8 +32,11 @@ slice-write-part c = search needs
 slice-write-part-2 : tie.Need-slice-write-part-2
 slice-write-part-2 c = search needs
 
+cast-set-word-2 : tie.Need-cast-set-word-2
+cast-set-word-2 c = search needs
+
 set-word-requires-2 : tie.Need-set-word-requires-2
-set-word-requires-2 c κs = omega (arith, start c .pre, c .before .before .before .set-word .ensures .long, length-set (c .before .before .before .set-word .last .0) 2 (start c .args .kind), length-set (set (c .before .before .before .set-word .last .0) 2 (start c .args .kind)) 3 0)
+set-word-requires-2 c κs = omega (arith, start c .pre .long, c .before .before .before .set-word .ensures .long, length-set (c .before .before .before .set-word .last .0) 2 (start c .args .kind), length-set (set (c .before .before .before .set-word .last .0) 2 (start c .args .kind)) 3 0)
 
 same-length : tie.Need-same-length
 same-length c = done c .long
@@ -42,9 +48,11 @@ pub name-spec : {M : Type 1} → statement M
 name-spec =
     tie.close
     (tie.spec
+    cast-set-word
     set-word-requires
     slice-write-part
     slice-write-part-2
+    cast-set-word-2
     set-word-requires-2
     same-length
     returns)

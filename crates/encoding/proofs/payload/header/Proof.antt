@@ -1,12 +1,7 @@
 -- `encoding::payload::header` meets its contract. Three fields, one behind the other.
 -- Assumes nothing.
-use mathlib.Core.List.{[]}
-use lib.ListN.{set}
-use denote.Ref.{now}
-use Rattle.game.specs.promise.Tables.{tablesOf}
-use Rattle.format.specs.promise.Format.{plain}
-use Rattle.format.specs.parts.Put.{Put}
-use Rattle.encoding.specs.parts.Encoding.{headAt}
+use mathlib.Core.Path.{_∙_}
+use lib.ListN.{length-set}
 use Rattle.encoding.proofs.Frames.{put-head}
 use borrow.Author.Needs.{needs}
 use Rattle.encoding.proofs.payload.header.Statement.{statement}
@@ -15,13 +10,6 @@ use Rattle.encoding.proofs.payload.header.Tie as tie
 -- the way back to the entry
 abbrev start : tie.After-set-word → tie.Start
 start c = c .before .before .before .before .before
-
--- five bytes
-done : (c : tie.After-slice-known3) → let s = c .before .before in let a = start (s .before .before .before .before) .args in Put 6 11 (headAt (plain (tablesOf (now (a .owners)) [] [] (now (a .targets))))) (now (a .part)) (set (s .set-word2 .last .0) 10 0)
-done c =
-    let s = c .before .before in
-    let w = s .before .before .before .before in
-    put-head _ _ (start w .pre .long) (w .set-word .ensures) (s .set-word2 .ensures)
 
 cast-set-word : tie.Need-cast-set-word
 cast-set-word c = search needs
@@ -39,10 +27,15 @@ slice-write-part : tie.Need-slice-write-part
 slice-write-part c = search needs
 
 same-length : tie.Need-same-length
-same-length c = done c .long
+same-length c =
+    let s = c .before .before in
+    length-set (s .set-word2 .last .0) 10 _ ∙ s .set-word2 .ensures .long ∙ s .before .before .before .before .set-word .ensures .long
 
 returns : tie.Need-returns
-returns c = done c
+returns c =
+    let s = c .before .before in
+    let w = s .before .before .before .before in
+    put-head _ _ (start w .pre .long) (w .set-word .ensures) (s .set-word2 .ensures)
 
 pub header-spec : {M : Type 1} → statement M
 header-spec =

@@ -12,7 +12,7 @@ abbrev Inv-loop : tie.InvT-loop
 Inv-loop file from sum₀ i₀ sum i = Weight file from sum i
 
 abbrev μ-loop : tie.MeasureT-loop
-μ-loop file from sum₀ i₀ sum i = 510 - i
+μ-loop file from sum₀ i₀ sum i = 512 - i
 
 -- the byte of this turn
 byte : (c : tie.After-shared-slice-known Inv-loop μ-loop) → getD (c .before .before .before .args .file .now) (c .before .before .before .args .from + c .before .before .loop .i) 0 < 256
