@@ -17,7 +17,7 @@ use Rattle.writer.proofs.Determined.{determined}
 use Rattle.writer.proofs.Exactly.{writable}
 use Rattle.cases.specs.promise.Games.{A}
 use Rattle.cases.specs.promise.Table.{answerA, Only}
-use Rattle.cases.specs.promise.ShutOut.{Put, put, Writing}
+use Rattle.cases.specs.promise.ShutOut.{Wrote, wrote, Writing}
 use Rattle.cases.proofs.Answers.{answered}
 
 formed : WellFormed A
@@ -28,17 +28,17 @@ three = file-long (plain A)
 
 module _ (output : List ℕ) where
   -- there is no other outcome than one that the promise allows
-  only : (a : Put) → Writing A output a → Only (Writing A output) a
+  only : (a : Wrote) → Writing A output a → Only (Writing A output) a
   only a allowed =
       record {
         allowed = allowed;
-        no-other = λ o p. let e = determined A output (o .left) (a .left) (o .said) (a .said) p allowed in λ i. put (e .0 i) (e .1 i);
+        no-other = λ o p. let e = determined A output (o .left) (a .left) (o .said) (a .said) p allowed in λ i. wrote (e .0 i) (e .1 i);
       }
 
-  pub write-A : length output ≡ 1536 → Only (Writing A output) (put (success (1536 ∷ [])) (fileOf (plain A)))
+  pub write-A : length output ≡ 1536 → Only (Writing A output) (wrote (success (1536 ∷ [])) (fileOf (plain A)))
   write-A long = only _ (record { none = writable A output formed (long ∙ sym three); values-are = ap (λ (n : ℕ). n ∷ []) (sym three); file-is = refl })
 
-  pub write-A-46 : length output ≢ 1536 → Only (Writing A output) (put (refused 46 0) output)
+  pub write-A-46 : length output ≢ 1536 → Only (Writing A output) (wrote (refused 46 0) output)
   write-A-46 other = only _ (record { first = first-right (tableRows A) (row 46 (Fault46 A output) ∷ []) 46 0 (none-applies A formed) (inl (refl, here)); same = refl })
     where
       here : Lowest (Fault46 A output) 0

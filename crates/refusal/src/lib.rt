@@ -100,10 +100,10 @@ pub fn or(said: Tested, found: Found, kind: Kind) -> Tested
 pub fn then(said: Tested, next: Tested) -> Tested
     ensures { λ r. ⌜ Follows said next r ⌝ }
 {
-    if let Tested::Refused(r) = said {
-        return Tested::Refused(r);
+    match said {
+        Tested::Refused(r) => Tested::Refused(r),
+        Tested::Passed => next,
     }
-    next
 }
 
 fn of_table(fault: TableFault) -> u64

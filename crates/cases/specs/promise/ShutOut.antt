@@ -46,16 +46,16 @@ abbrev pub file255 : List ℕ
 file255 = fileOf (record { tables = loopOf 255; rule = 1 })
 
 -- what comes out of the writer: what is said, and what the output holds
-pub record Put : Type 0 where
+pub record Wrote : Type 0 where
   pub said : Said
   pub left : List ℕ
 
 -- such an outcome, in this order
-abbrev pub put : Said → List ℕ → Put
-put said left = record { said = said; left = left }
+abbrev pub wrote : Said → List ℕ → Wrote
+wrote said left = record { said = said; left = left }
 
 -- the promise of `write` on these tables and this output
-abbrev pub Writing : Tables → (output : List ℕ) → Put → Type 0
+abbrev pub Writing : Tables → (output : List ℕ) → Wrote → Type 0
 Writing t output o = Writes t output (o .left) (o .said)
 
 -- each wrong program, shut out
