@@ -11,7 +11,7 @@ use Rattle.format.specs.parts.Put.{Put}
 use Rattle.format.proofs.Picks.{pick-true, pick-false}
 use Rattle.format.proofs.BlockKinds.{used-vertex, used-target}
 use Rattle.format.proofs.Puts.{put-as, put-upto}
-use Rattle.encoding.specs.parts.Encoding.{nameByte, headAt, vertexAt, targetAt, zeroByte}
+use Rattle.pieces.specs.parts.Pieces.{nameByte, headAt, vertexAt, targetAt, zeroByte}
 
 -- so many vertices, or targets, fill so many bytes
 four-each : (n k : ℕ) → 4 * min 126 (n - 126 * k) ≡ min 504 (4 * n - 504 * k)

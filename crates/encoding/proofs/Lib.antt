@@ -1,3 +1,2 @@
-pub mod Runs
 pub mod Bodies
-pub mod Frames
+pub mod Whole

@@ -10,7 +10,7 @@ use Rattle.game.specs.promise.Lent.{asked}
 use Rattle.format.specs.promise.Format.{plain, bodyByte}
 use Rattle.format.specs.parts.Put.{Begun}
 use Rattle.format.proofs.BlockKinds.{used-most}
-use Rattle.encoding.proofs.Frames.{body-put, block-put}
+use Rattle.encoding.proofs.Whole.{body-put, block-put}
 use borrow.Author.Needs.{needs}
 use Rattle.encoding.proofs.block.Statement.{statement}
 use Rattle.encoding.proofs.block.Tie as tie

@@ -1,13 +1,13 @@
--- `encoding::payload::run_targets` meets its contract. Invariant `TargetRun`: the targets before this one stand in the part.
+-- `pieces::payload::run_targets` meets its contract. Invariant `TargetRun`: the targets before this one stand in the part.
 -- Assumes nothing.
 use Prim.Native.Nat.{_+_, _-_, _<_}
 use native.Mathlib.Omega.{arith}
 use lib.ListN.{length}
 use denote.Ref.{now}
-use Rattle.encoding.proofs.Runs.{TargetRun, target-none, target-room, target-more, target-all}
+use Rattle.pieces.proofs.Runs.{TargetRun, target-none, target-room, target-more, target-all}
 use borrow.Author.Needs.{needs}
-use Rattle.encoding.proofs.payload.run_targets.Statement.{statement}
-use Rattle.encoding.proofs.payload.run_targets.Tie as tie
+use Rattle.pieces.proofs.payload.run_targets.Statement.{statement}
+use Rattle.pieces.proofs.payload.run_targets.Tie as tie
 
 abbrev Inv-loop : tie.InvT-loop
 Inv-loop targets first part₀ end at₀ e₀ part at e = TargetRun targets first end part₀ part at e

@@ -1,11 +1,11 @@
--- `encoding::payload::header` meets its contract. Three fields, one behind the other.
+-- `pieces::payload::header` meets its contract. Three fields, one behind the other.
 -- Assumes nothing.
 use mathlib.Core.Path.{_∙_}
 use lib.ListN.{length-set}
-use Rattle.encoding.proofs.Frames.{put-head}
+use Rattle.pieces.proofs.Frames.{put-head}
 use borrow.Author.Needs.{needs}
-use Rattle.encoding.proofs.payload.header.Statement.{statement}
-use Rattle.encoding.proofs.payload.header.Tie as tie
+use Rattle.pieces.proofs.payload.header.Statement.{statement}
+use Rattle.pieces.proofs.payload.header.Tie as tie
 
 -- the way back to the entry
 abbrev start : tie.After-set-word → tie.Start

@@ -1,18 +1,16 @@
-// A block's payload: the header's, or the vertices or targets that are the block's own.
+// What a block's payload is made of: the header's fields, or a run of vertices or of targets.
 use format::bytes::set_word;
-use format::extent::vertex_blocks;
 ghost use mathlib.Core.Path.{_≡_};
 ghost use mathlib.Core.List.{[]};
 ghost use Prim.Native.Nat.{_+_, _-_, _*_, _<_, _≤_, min};
 ghost use lib.ListN.{length};
 ghost use Rattle.game.specs.promise.Tables.{tablesOf};
-ghost use Rattle.game.specs.promise.Lent.{asked, lent};
-ghost use Rattle.format.specs.promise.Format.{plain, usedOf, bodyByte};
+ghost use Rattle.format.specs.promise.Format.{plain};
 ghost use Rattle.format.specs.parts.Put.{Put};
-ghost use Rattle.encoding.specs.parts.Encoding.{Encodes, Words, Run, headAt, vertexAt, targetAt};
+ghost use Rattle.pieces.specs.parts.Pieces.{Words, Run, headAt, vertexAt, targetAt};
 
 // n, the number of edges, and rule 0.
-fn header(owners: &[u8], targets: &[u16], part: &mut [u8])
+pub fn header(owners: &[u8], targets: &[u16], part: &mut [u8])
     requires { ⌜ Words (length (now owners)) (length (now targets)) (now part) ⌝ }
     ensures { λ _. ⌜ Put 6 11 (headAt (plain (tablesOf (now (owners .entry)) [] [] (now (targets .entry))))) (now (part .entry)) (now (part .exit)) ⌝ }
 {
@@ -36,7 +34,7 @@ fn run_end(first: usize, most: usize, all: usize) -> usize
 }
 
 // 126 vertices from the first on, or what is left of them: owner, priority, number of successors.
-fn run_vertices(owners: &[u8], priorities: &[u8], starts: &[u16], first: usize, part: &mut [u8])
+pub fn run_vertices(owners: &[u8], priorities: &[u8], starts: &[u16], first: usize, part: &mut [u8])
     requires { ⌜ Run (now owners) (now priorities) (now starts) first (now part) ⌝ }
     ensures { λ _. ⌜ Put 6 (6 + 4 * min 126 (length (now (owners .entry)) - first)) (vertexAt (tablesOf (now (owners .entry)) (now (priorities .entry)) (now (starts .entry)) []) first) (now (part .entry)) (now (part .exit)) ⌝ }
 {
@@ -53,7 +51,7 @@ fn run_vertices(owners: &[u8], priorities: &[u8], starts: &[u16], first: usize, 
 }
 
 // 252 targets from the first on, or what is left of them.
-fn run_targets(targets: &[u16], first: usize, part: &mut [u8])
+pub fn run_targets(targets: &[u16], first: usize, part: &mut [u8])
     requires { ⌜ (length (now part) ≡ 512) × (first < 65536) ⌝ }
     ensures { λ _. ⌜ Put 6 (6 + 2 * min 252 (length (now (targets .entry)) - first)) (targetAt (now (targets .entry)) first) (now (part .entry)) (now (part .exit)) ⌝ }
 {
@@ -65,28 +63,4 @@ fn run_targets(targets: &[u16], first: usize, part: &mut [u8])
         at += 2;
         e += 1;
     }
-}
-
-// The payload of block b. Vertices and targets are counted from the first block of their kind.
-pub fn payload(
-    owners: &[u8],
-    priorities: &[u8],
-    starts: &[u16],
-    targets: &[u16],
-    b: usize,
-    part: &mut [u8],
-)
-    requires { ⌜ Encodes (asked owners priorities starts targets) b (now part) ⌝ }
-    ensures { λ _. ⌜ Put 6 (6 + usedOf (length (now (owners .entry))) (length (now (targets .entry))) b) (bodyByte (plain (lent owners priorities starts targets)) b) (now (part .entry)) (now (part .exit)) ⌝ }
-{
-    if b == 0 {
-        header(owners, targets, part);
-        return;
-    }
-    let blocks = vertex_blocks(owners.len());
-    if b <= blocks {
-        run_vertices(owners, priorities, starts, 126 * (b - 1), part);
-        return;
-    }
-    run_targets(targets, 252 * (b - 1 - blocks), part);
 }

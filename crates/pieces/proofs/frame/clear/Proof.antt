@@ -1,14 +1,14 @@
--- `encoding::frame::clear` meets its contract. Invariant: zeros are put up to here.
+-- `pieces::frame::clear` meets its contract. Invariant: zeros are put up to here.
 -- Assumes nothing.
 use Prim.Native.Nat.{_-_, _≤_}
 use mathlib.Core.Path.{_≡_, refl}
 use native.Mathlib.Omega.{arith}
 use Rattle.format.specs.parts.Put.{Put}
 use Rattle.format.proofs.Puts.{put-none, put-one, put-then, put-upto}
-use Rattle.encoding.specs.parts.Encoding.{zeroByte}
+use Rattle.pieces.specs.parts.Pieces.{zeroByte}
 use borrow.Author.Needs.{needs}
-use Rattle.encoding.proofs.frame.clear.Statement.{statement}
-use Rattle.encoding.proofs.frame.clear.Tie as tie
+use Rattle.pieces.proofs.frame.clear.Statement.{statement}
+use Rattle.pieces.proofs.frame.clear.Tie as tie
 
 abbrev Inv-loop : tie.InvT-loop
 Inv-loop part₀ from i₀ part i = (from ≤ i) × (i ≤ 510) × Put from i zeroByte part₀ part

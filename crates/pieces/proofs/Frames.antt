@@ -1,21 +1,17 @@
--- The bytes around a block's payload and those of the header, put one behind the other; a whole block.
+-- The bytes around a block's payload and those of the header, put one behind the other.
 use Prim.Native.Nat.{ℕ, zero, suc, _+_, _-_, _*_, _%_, _<_, _≤_}
-use mathlib.Core.Path.{_≡_, refl, ap, ap₂, sym, subst, _∙_}
+use mathlib.Core.Path.{_≡_, refl, ap, subst, _∙_}
 use mathlib.Core.List.{List, []}
 use native.Mathlib.Omega.{arith}
-use native.Mathlib.Decide.{decLt}
-use borrow.Author.Tests.{lt-ltb, le-ltb}
-use lib.ListN.{length, getD, set}
+use lib.ListN.{length, set}
 use lib.Seq.{lt-length-set}
 use Rattle.lists.proofs.Sums.{sum-same}
-use Rattle.game.specs.promise.Tables.{tablesOf, vertices}
-use Rattle.format.specs.promise.Format.{Filing, lowHigh, checkOf, kindOf, usedOf, headByte, bodyByte, blockByte, plain}
+use Rattle.game.specs.promise.Tables.{tablesOf}
+use Rattle.format.specs.promise.Format.{Filing, lowHigh, checkOf, headByte, plain}
 use Rattle.format.specs.promise.Filed.{byteAt}
-use Rattle.format.specs.parts.Put.{Put, Begun, wordByte}
-use Rattle.format.proofs.Picks.{pick-true, pick-false}
-use Rattle.format.proofs.Puts.{put-one, put-then, put-as, begun-none, begun-more}
-use Rattle.encoding.specs.parts.Encoding.{nameByte, headAt, zeroByte}
-use Rattle.encoding.proofs.Bodies.{body-name, body-unused}
+use Rattle.format.specs.parts.Put.{Put, wordByte}
+use Rattle.format.proofs.Puts.{put-one, put-then, put-as}
+use Rattle.pieces.specs.parts.Pieces.{nameByte, headAt}
 
 -- number, kind, zero, used count
 pub put-name : {x y z : List ℕ} (b kind used : ℕ) → length x ≡ 512 → Put 0 2 (wordByte b 0) x y → Put 4 6 (wordByte used 4) (set (set y 2 kind) 3 0) z → Put 0 6 (nameByte b kind used) x z
@@ -61,28 +57,8 @@ put-head {x} {y} {z} owners targets long n m =
     high i l h = mid (i - 8) (let q : i - 8 < 2 = omega arith in q) ∙ ap (headByte (plain (tablesOf owners [] [] targets))) (let q : suc (suc (i - 8)) ≡ i - 6 = omega arith in q)
 
 -- the check of a part's own bytes
-pub put-check : {x y : List ℕ} (s : ℕ) → s ≡ checkOf (λ i. byteAt x (0 + i)) → Put 510 512 (wordByte s 510) x y → Put 510 512 (wordByte (checkOf (byteAt x)) 510) x y
-put-check {x} {y} s e p = subst (λ (c : ℕ). Put 510 512 (wordByte c 510) x y) (e ∙ here) p
+pub put-check : (x y : List ℕ) (s : ℕ) → s ≡ checkOf (λ i. byteAt x (0 + i)) → Put 510 512 (wordByte s 510) x y → Put 510 512 (wordByte (checkOf (byteAt x)) 510) x y
+put-check x y s e p = subst (λ (c : ℕ). Put 510 512 (wordByte c 510) x y) (e ∙ here) p
   where
     here : checkOf (λ i. byteAt x (0 + i)) ≡ checkOf (byteAt x)
     here = ap (λ (c : ℕ). c % 65521) (sum-same 510 _ _ (λ i h. ap (λ (j : ℕ). (i + 1) * byteAt x j) (let q : 0 + i ≡ i = omega arith in q)))
-
--- name, payload, zeros and check make the block
-module _ (f : Filing) (b : ℕ) where
-  module _ (kind used : ℕ) (kind-is : kind ≡ kindOf (vertices (f .tables)) b) (used-is : used ≡ usedOf (vertices (f .tables)) (length (f .tables .targets)) b) where
-    pub body-put : {v w x y : List ℕ} → length v ≡ 512 → Put 0 6 (nameByte b kind used) v w → Put 6 (6 + usedOf (vertices (f .tables)) (length (f .tables .targets)) b) (bodyByte f b) w x → Put (6 + used) 510 zeroByte x y → Begun 512 (bodyByte f b) 510 y
-    body-put {x} {y} long name load rest =
-        let named = begun-more (begun-none long) (put-as name (λ i l h. ap₂ (λ (k u : ℕ). nameByte b k u i) kind-is used-is ∙ body-name f b i h)) in
-        begun-more (begun-more named load) (put-as (subst (λ (u : ℕ). Put (6 + u) 510 zeroByte x y) used-is rest) (λ i l h. body-unused f b i l))
-
-  pub block-put : {y z : List ℕ} → Begun 512 (bodyByte f b) 510 y → Put 510 512 (wordByte (checkOf (byteAt y)) 510) y z → Begun 512 (blockByte f b) 512 z
-  block-put {y} {z} body check = record { long = check .long ∙ body .long; is = λ i l. at i l (decLt i 510) }
-    where
-      same : checkOf (byteAt y) ≡ checkOf (bodyByte f b)
-      same = ap (λ (s : ℕ). s % 65521) (sum-same 510 _ _ (λ i h. ap (λ (j : ℕ). (i + 1) * j) (body .is i h)))
-
-      at : (i : ℕ) → i < 512 → Dec (i < 510) → getD z i 0 ≡ blockByte f b i
-      at i l (yes h) = check .below i h ∙ body .is i h ∙ sym (pick-true _ _ (lt-ltb i 510 h))
-      at i l (no h) =
-          let g : 510 ≤ i = omega arith in
-          check .is i g l ∙ ap (λ (s : ℕ). lowHigh s (i - 510)) same ∙ sym (pick-false _ _ (le-ltb i 510 g))

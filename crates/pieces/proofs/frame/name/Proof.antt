@@ -1,14 +1,14 @@
--- `encoding::frame::name` meets its contract. Six bytes, from the front on.
+-- `pieces::frame::name` meets its contract. Six bytes, from the front on.
 -- Assumes nothing.
 use native.Mathlib.Omega.{arith}
 use lib.ListN.{set, length-set}
 use denote.Ref.{now}
 use Rattle.format.specs.parts.Put.{Put}
-use Rattle.encoding.specs.parts.Encoding.{nameByte}
-use Rattle.encoding.proofs.Frames.{put-name}
+use Rattle.pieces.specs.parts.Pieces.{nameByte}
+use Rattle.pieces.proofs.Frames.{put-name}
 use borrow.Author.Needs.{needs}
-use Rattle.encoding.proofs.frame.name.Statement.{statement}
-use Rattle.encoding.proofs.frame.name.Tie as tie
+use Rattle.pieces.proofs.frame.name.Statement.{statement}
+use Rattle.pieces.proofs.frame.name.Tie as tie
 
 -- the way back to the entry
 abbrev start : tie.After-set-word-arg2 → tie.Start

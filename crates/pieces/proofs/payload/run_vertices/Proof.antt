@@ -1,4 +1,4 @@
--- `encoding::payload::run_vertices` meets its contract. Invariant `VertexRun`: the vertices before this one stand in the part.
+-- `pieces::payload::run_vertices` meets its contract. Invariant `VertexRun`: the vertices before this one stand in the part.
 -- Assumes nothing.
 use Prim.Native.Nat.{_+_, _-_, _<_}
 use mathlib.Core.List.{[]}
@@ -7,10 +7,10 @@ use lib.ListN.{length, getD, set}
 use lib.Seq.{lt-length-set}
 use denote.Ref.{now}
 use Rattle.game.specs.promise.Tables.{tablesOf}
-use Rattle.encoding.proofs.Runs.{VertexRun, vertex-none, vertex-room, vertex-more, vertex-all}
+use Rattle.pieces.proofs.Runs.{VertexRun, vertex-none, vertex-room, vertex-more, vertex-all}
 use borrow.Author.Needs.{needs}
-use Rattle.encoding.proofs.payload.run_vertices.Statement.{statement}
-use Rattle.encoding.proofs.payload.run_vertices.Tie as tie
+use Rattle.pieces.proofs.payload.run_vertices.Statement.{statement}
+use Rattle.pieces.proofs.payload.run_vertices.Tie as tie
 
 abbrev Inv-loop : tie.InvT-loop
 Inv-loop owners priorities starts first part₀ end at₀ v₀ part at v = VertexRun (tablesOf owners priorities starts []) first end part₀ part at v

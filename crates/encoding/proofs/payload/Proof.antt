@@ -1,11 +1,11 @@
--- `encoding::payload::payload` meets its contract. The payload by the kind of the block.
+-- `encoding::payload` meets its contract. The payload by the kind of the block.
 -- Assumes nothing.
 use Rattle.game.specs.promise.Tables.{Tables}
 use Rattle.game.specs.promise.Lent.{asked}
 use Rattle.encoding.proofs.Bodies.{head-put, vertex-put, target-put}
 use borrow.Author.Needs.{needs}
-use Rattle.encoding.proofs.payload.payload.Statement.{statement}
-use Rattle.encoding.proofs.payload.payload.Tie as tie
+use Rattle.encoding.proofs.payload.Statement.{statement}
+use Rattle.encoding.proofs.payload.Tie as tie
 
 -- the way back to the entry, and the tables
 abbrev start : tie.After-slice-known → tie.Start

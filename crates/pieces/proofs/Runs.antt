@@ -9,7 +9,7 @@ use Rattle.game.specs.promise.Tables.{Tables}
 use Rattle.format.specs.promise.Format.{lowHigh, vertexByte}
 use Rattle.format.specs.parts.Put.{Put, wordByte}
 use Rattle.format.proofs.Puts.{put-none, put-one, put-then, put-as, put-upto}
-use Rattle.encoding.specs.parts.Encoding.{vertexAt, targetAt}
+use Rattle.pieces.specs.parts.Pieces.{vertexAt, targetAt}
 
 -- vertices from the first up to v stand in the part, and the next four bytes are at `at`
 pub record VertexRun (t : Tables) (first end : ℕ) (before part : List ℕ) (at v : ℕ) : Type 0 where

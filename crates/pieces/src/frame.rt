@@ -7,7 +7,7 @@ ghost use lib.ListN.{length};
 ghost use Rattle.format.specs.promise.Format.{checkOf};
 ghost use Rattle.format.specs.promise.Filed.{byteAt};
 ghost use Rattle.format.specs.parts.Put.{Put, wordByte};
-ghost use Rattle.encoding.specs.parts.Encoding.{Words, nameByte, zeroByte};
+ghost use Rattle.pieces.specs.parts.Pieces.{Words, nameByte, zeroByte};
 
 // Number, kind, zero, used count.
 pub fn name(part: &mut [u8], b: usize, kind: u8, used: usize)
