@@ -27,21 +27,26 @@ static int put(size_t length) {
     return 1;
 }
 
-static int fail(const char *what, uint64_t number, uint64_t place) {
-    dprintf(2, "amend: %s: %d at %d\n", what, (int)number, (int)place);
+static int fail(const char *what) {
+    dprintf(2, "amend: %s\n", what);
+    return 1;
+}
+
+static int refused(const char *what, uint64_t number, uint64_t place) {
+    dprintf(2, "amend: the %s is refused: %d at %d\n", what, (int)number, (int)place);
     return 1;
 }
 
 int main(void) {
     uint64_t value;
     long length = take();
-    if (length < 0) return fail("cannot read", 0, 0);
+    if (length < 0) return fail("cannot read standard input");
     uint64_t number = zoetelkorf_read(file, length, owners, VERTICES, priorities, VERTICES, starts, VERTICES + 1, targets, EDGES, &value);
-    if (number != 0) return fail("the file is refused", number, value);
+    if (number != 0) return refused("file", number, value);
     size_t n = value % 65536, edges = value / 65536;
 
     owners[0] = 1 - owners[0];
     number = zoetelkorf_write(owners, n, priorities, n, starts, n + 1, targets, edges, file, ZOETELKORF_FILE_LENGTH(n, edges), &value);
-    if (number != 0) return fail("the amended game is refused", number, value);
-    return put(value) ? 0 : fail("cannot write", 0, 0);
+    if (number != 0) return refused("amended game", number, value);
+    return put(value) ? 0 : fail("cannot write to standard output");
 }
