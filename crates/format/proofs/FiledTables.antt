@@ -1,14 +1,14 @@
 -- The tables that are filed, once 45 has passed: their lengths fit, and their starts cut the targets into stretches. So rows 1 and 4 of the
 -- tables cannot come from a file, whichever rule turns the priorities.
 use Prim.Native.Nat.{ℕ}
-use mathlib.Core.Path.{sym, subst, _∙_}
+use mathlib.Core.Path.{_≡_, ap, sym, subst, _∙_}
 use mathlib.Core.List.{List}
 use native.Mathlib.Omega.{arith}
 use lib.ListN.{length}
 use Rattle.game.specs.promise.Tables.{Tables, tablesOf, Placed}
 use Rattle.game.proofs.Sizes.{Fitting}
 use Rattle.format.specs.promise.Format.{turnedOf}
-use Rattle.format.specs.promise.Filed.{ownersFiled, prioritiesFiled, startsFiled, targetsFiled}
+use Rattle.format.specs.promise.Filed.{ruleFiled, ownersFiled, prioritiesFiled, startsFiled, targetsFiled, filed, tablesFiled}
 use Rattle.format.specs.parts.Tests.{Summed}
 use Rattle.format.proofs.Lists.{owners-long, priorities-long, starts-long, targets-long, placed-filed}
 use Rattle.format.proofs.Turning.{turned-long}
@@ -16,6 +16,10 @@ use Rattle.format.proofs.Turning.{turned-long}
 -- the tables, the priorities turned by a rule: by 0 they are as filed
 abbrev pub turnedTables : List ℕ → ℕ → Tables
 turnedTables file rule = tablesOf (ownersFiled file) (turnedOf rule (prioritiesFiled file)) (startsFiled file) (targetsFiled file)
+
+-- so a file of rule 0 holds the tables of its game
+pub as-filed : (file : List ℕ) → ruleFiled file ≡ 0 → tablesFiled file ≡ filed file .tables
+as-filed file e = ap (turnedTables file) e
 
 module _ (file : List ℕ) (s : Summed file) where
   pub filed-fits : (rule : ℕ) → Fitting (turnedTables file rule)

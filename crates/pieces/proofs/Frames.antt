@@ -17,12 +17,9 @@ use Rattle.pieces.specs.parts.Pieces.{nameByte, headAt}
 pub put-name : {x y z : List ℕ} (b kind used : ℕ) → length x ≡ 512 → Put 0 2 (wordByte b 0) x y → Put 4 6 (wordByte used 4) (set (set y 2 kind) 3 0) z → Put 0 6 (nameByte b kind used) x z
 put-name {x} {y} {z} b kind used long number count =
     put-then (omega arith) (omega arith) (put-as number low)
-    (put-then (omega arith) (omega arith) (put-one y 2 kind (nameByte b kind used) in2 refl)
+    (put-then (omega arith) (omega arith) (put-one y 2 kind (nameByte b kind used) (omega (arith, number .long)) refl)
     (put-then (omega arith) (omega arith) (put-one (set y 2 kind) 3 0 (nameByte b kind used) (lt-length-set y 2 kind in3) refl) (put-as count high)))
   where
-    in2 : 2 < length y
-    in2 = omega (arith, number .long)
-
     in3 : 3 < length y
     in3 = omega (arith, number .long)
 
@@ -35,26 +32,27 @@ put-name {x} {y} {z} b kind used long number count =
     high i l h = ap (nameByte b kind used) (let q : suc (suc (suc (suc (i - 4)))) ≡ i = omega arith in q)
 
 -- n, the number of edges, and rule 0
-pub put-head : {x y z : List ℕ} (owners targets : List ℕ) → length x ≡ 512 → Put 6 8 (wordByte (length owners) 6) x y → Put 8 10 (wordByte (length targets) 8) y z → Put 6 11 (headAt (plain (tablesOf owners [] [] targets))) x (set z 10 0)
-put-head {x} {y} {z} owners targets long n m =
-    put-then (omega arith) (omega arith) (put-as n (λ i l h. low (i - 6) (let q : i - 6 < 2 = omega arith in q)))
-    (put-then (omega arith) (omega arith) (put-as m high) (put-one z 10 0 (headAt f) (omega (arith, n .long, m .long)) refl))
-  where
-    f : Filing
-    f = plain (tablesOf owners [] [] targets)
+module _ (owners targets : List ℕ) where
+  abbrev filing : Filing
+  filing = plain (tablesOf owners [] [] targets)
 
-    low : (k : ℕ) → k < 2 → lowHigh (length owners) k ≡ headByte (plain (tablesOf owners [] [] targets)) k
-    low zero h = refl
-    low (suc zero) h = refl
-    low (suc (suc k)) h = absurd (let q : ⊥ = omega arith in q)
+  head-n : (k : ℕ) → k < 2 → lowHigh (length owners) k ≡ headByte filing k
+  head-n zero h = refl
+  head-n (suc zero) h = refl
+  head-n (suc (suc k)) h = absurd (let q : ⊥ = omega arith in q)
 
-    mid : (k : ℕ) → k < 2 → lowHigh (length targets) k ≡ headByte (plain (tablesOf owners [] [] targets)) (suc (suc k))
-    mid zero h = refl
-    mid (suc zero) h = refl
-    mid (suc (suc k)) h = absurd (let q : ⊥ = omega arith in q)
+  head-m : (k : ℕ) → k < 2 → lowHigh (length targets) k ≡ headByte filing (suc (suc k))
+  head-m zero h = refl
+  head-m (suc zero) h = refl
+  head-m (suc (suc k)) h = absurd (let q : ⊥ = omega arith in q)
 
-    high : (i : ℕ) → 8 ≤ i → i < 10 → wordByte (length targets) 8 i ≡ headAt (plain (tablesOf owners [] [] targets)) i
-    high i l h = mid (i - 8) (let q : i - 8 < 2 = omega arith in q) ∙ ap (headByte (plain (tablesOf owners [] [] targets))) (let q : suc (suc (i - 8)) ≡ i - 6 = omega arith in q)
+  pub put-head : {x y z : List ℕ} → length x ≡ 512 → Put 6 8 (wordByte (length owners) 6) x y → Put 8 10 (wordByte (length targets) 8) y z → Put 6 11 (headAt filing) x (set z 10 0)
+  put-head {x} {y} {z} long n m =
+      put-then (omega arith) (omega arith) (put-as n (λ i l h. head-n (i - 6) (let q : i - 6 < 2 = omega arith in q)))
+      (put-then (omega arith) (omega arith) (put-as m edges) (put-one z 10 0 (headAt filing) (omega (arith, n .long, m .long)) refl))
+    where
+      edges : (i : ℕ) → 8 ≤ i → i < 10 → wordByte (length targets) 8 i ≡ headAt filing i
+      edges i l h = head-m (i - 8) (let q : i - 8 < 2 = omega arith in q) ∙ ap (headByte filing) (let q : suc (suc (i - 8)) ≡ i - 6 = omega arith in q)
 
 -- the check of a part's own bytes
 pub put-check : (x y : List ℕ) (s : ℕ) → s ≡ checkOf (λ i. byteAt x (0 + i)) → Put 510 512 (wordByte s 510) x y → Put 510 512 (wordByte (checkOf (byteAt x)) 510) x y

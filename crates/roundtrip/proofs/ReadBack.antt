@@ -6,11 +6,12 @@ use native.Mathlib.Omega.{arith}
 use lib.ListN.{length, getD}
 use Rattle.refusal.specs.promise.Row.{Said, success, refused, None}
 use Rattle.refusal.proofs.Rows.{first-not-none}
-use Rattle.game.specs.promise.Tables.{Tables, tablesOf, vertices}
+use Rattle.game.specs.promise.Tables.{Tables, vertices}
 use Rattle.game.specs.promise.Lent.{Fit}
-use Rattle.format.specs.promise.Format.{Filing, fileOf, plain, turnedOf}
+use Rattle.format.specs.promise.Format.{Filing, fileOf, plain}
 use Rattle.format.specs.promise.Filed.{verticesFiled, edgesFiled, tablesFiled}
-use Rattle.filing.proofs.Written.{vertices-are, edges-are}
+use Rattle.format.proofs.FiledTables.{as-filed}
+use Rattle.filing.proofs.Written.{vertices-are, edges-are, rule-is}
 use Rattle.filing.proofs.Exactly.{Fileable, filed-back, file-is-judged}
 use Rattle.decoding.specs.promise.Holding.{Holding}
 use Rattle.housefile.specs.promise.Faults.{tableSizes, fileRows}
@@ -18,10 +19,6 @@ use Rattle.housefile.specs.promise.Reading.{Reads}
 use Rattle.housefile.proofs.LentRows.{rows-none}
 use Rattle.writer.specs.promise.Writing.{Writes}
 use Rattle.writer.proofs.Lengths.{fillable}
-
--- the tables of the game that is filed
-abbrev turned : Filing → Tables
-turned f = tablesOf (f .tables .owners) (turnedOf (f .rule) (f .tables .priorities)) (f .tables .starts) (f .tables .targets)
 
 module _ (t : Tables) (bytes : (v : ℕ) → getD (t .priorities) v 0 < 256) (before file values : List ℕ) (wrote : Writes t before file (success values)) where
   fine : Fileable (plain t)
@@ -37,7 +34,7 @@ module _ (t : Tables) (bytes : (v : ℕ) → getD (t .priorities) v 0 < 256) (be
         ap₂ (λ (n m : ℕ). n ∷ m ∷ []) (vertices-are (plain t)) (edges-are (plain t))
 
     same : tablesFiled file ≡ t
-    same = ap tablesFiled (wrote .file-is) ∙ ap turned (filed-back (plain t) fine)
+    same = ap tablesFiled (wrote .file-is) ∙ as-filed (fileOf (plain t)) (rule-is (plain t)) ∙ ap (λ (f : Filing). f .tables) (filed-back (plain t) fine)
 
     pub read-back : (said : Said) → Reads file lent after said → (said ≡ success (vertices t ∷ length (t .targets) ∷ [])) × Holding t after
     read-back (success v) r = (ap success (r .values-are ∙ sizes), subst (λ (u : Tables). Holding u after) same (r .holds))

@@ -5,10 +5,11 @@ use mathlib.Core.List.{List, [], _∷_}
 use lib.ListN.{length, getD}
 use Rattle.refusal.specs.promise.Row.{Said, success, refused, None}
 use Rattle.refusal.proofs.Rows.{first-not-none}
-use Rattle.game.specs.promise.Tables.{Tables, tablesOf, WellFormed}
-use Rattle.format.specs.promise.Format.{fileOf, plain, turnedOf}
-use Rattle.format.specs.promise.Filed.{ruleFiled, ownersFiled, prioritiesFiled, startsFiled, targetsFiled, filed, tablesFiled}
+use Rattle.game.specs.promise.Tables.{Tables, WellFormed}
+use Rattle.format.specs.promise.Format.{fileOf, plain}
+use Rattle.format.specs.promise.Filed.{ruleFiled, filed}
 use Rattle.format.specs.promise.Faults.{judgedRows}
+use Rattle.format.proofs.FiledTables.{as-filed}
 use Rattle.format.proofs.AllRows.{all-sized}
 use Rattle.filing.proofs.Accepted.{filed-well-formed}
 use Rattle.filing.proofs.Taken.{taken-is-file}
@@ -24,14 +25,10 @@ module _ (file : List ℕ) (bytes : (i : ℕ) → getD file i 0 < 256) (rule0 : 
   judged : None (judgedRows file)
   judged = all-judged file lent (took .none)
 
-  -- nothing was turned
-  as-filed : tablesFiled file ≡ filed file .tables
-  as-filed = ap (λ (r : ℕ). tablesOf (ownersFiled file) (turnedOf r (prioritiesFiled file)) (startsFiled file) (targetsFiled file)) rule0
-
   used : usedParts n m held ≡ filed file .tables
   used =
       holding-take (all-sized file judged) (ap (λ (l : List ℕ). getD l 0 0) (took .values-are)) (ap (λ (l : List ℕ). getD l 1 0) (took .values-are))
-      (subst (λ (t : Tables). Holding t held) as-filed (took .holds))
+      (subst (λ (t : Tables). Holding t held) (as-filed file rule0) (took .holds))
 
   same-file : fileOf (plain (usedParts n m held)) ≡ file
   same-file =

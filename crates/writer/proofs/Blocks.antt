@@ -4,12 +4,12 @@ use mathlib.Core.Path.{_≡_, ap, ap₂, sym, subst, subst₂, _∙_}
 use mathlib.Core.List.{List, _++_}
 use native.Mathlib.Omega.{arith}
 use native.Mathlib.Decide.{decLt}
-use native.Mathlib.Nat.{not-suc-le-zero}
 use lib.ListN.{length, getD, take, drop, length-append, length-drop, List·getD-append}
 use lib.Seq.{length-take-le, getD-take, getD-append-add, ext-getD}
 use Rattle.game.specs.promise.Tables.{vertices}
 use Rattle.format.specs.promise.Format.{Filing, blocksOf, blockByte, fileOf}
 use Rattle.format.specs.parts.Put.{Begun}
+use Rattle.format.proofs.Puts.{begun-none}
 use Rattle.format.proofs.FileOf.{file-long, file-at}
 
 -- a part is put back behind what has been begun
@@ -50,7 +50,7 @@ module _ (f : Filing) where
     pub begun : Begun fileSize fileByte (512 * b) output
 
   pub blocks-none : (output : List ℕ) → length output ≡ fileSize → Blocks output 0
-  blocks-none output long = record { begun = record { long = long; is = λ i l. absurd (not-suc-le-zero l) } }
+  blocks-none output long = record { begun = begun-none long }
 
   -- the part of block b, as it is cut out and put back
   pub blocks-part : (output : List ℕ) (b : ℕ) → b < blocksOf (vertices (f .tables)) (length (f .tables .targets)) → Blocks output b → length (take (512 * b + 512 - 512 * b) (drop (512 * b) output)) ≡ 512

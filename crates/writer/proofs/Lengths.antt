@@ -1,10 +1,10 @@
--- 46: what is found of the length is what is found of the file's; where no row applies, the output can be filled.
+-- 46: what is found of the length is what is found of the file's; where no row applies, the output can be filled, and is then as promised.
 use Prim.Native.Nat.{ℕ, _<_}
-use mathlib.Core.Path.{_≡_, refl, sym, _∙_}
+use mathlib.Core.Path.{_≡_, refl, ap, sym, _∙_}
 use mathlib.Core.List.{List, [], _∷_}
 use native.Mathlib.Decide.{ℕ-discrete}
 use lib.ListN.{length, getD}
-use Rattle.refusal.specs.promise.Row.{row, None}
+use Rattle.refusal.specs.promise.Row.{row, success, None}
 use Rattle.refusal.specs.declared.Found.{Found}
 use Rattle.refusal.specs.declared.Found.the-variants.{At, Nowhere}
 use Rattle.refusal.specs.parts.Found.{Finds}
@@ -15,6 +15,7 @@ use Rattle.game.proofs.WellFormed.{well-formed}
 use Rattle.format.specs.promise.Format.{fileOf, plain}
 use Rattle.format.proofs.FileOf.{file-long}
 use Rattle.writer.specs.promise.Faults.{Fault46, writeRows}
+use Rattle.writer.specs.promise.Writing.{Writes}
 use Rattle.writer.specs.parts.Filling.{OtherLength, Fillable}
 
 module _ (t : Tables) (output : List ℕ) where
@@ -41,3 +42,7 @@ module _ (t : Tables) (output : List ℕ) where
       exact : Dec (length output ≡ length (fileOf (plain t))) → length output ≡ length (fileOf (plain t))
       exact (yes e) = e
       exact (no h) = absurd (none-of 46 (writeRows t output) none 0 (record { place = refl; wrong = h }))
+
+  -- where no row applies and the output is the file, that and its length are what the promise asks
+  pub filled : (after : List ℕ) → None (writeRows t output) → after ≡ fileOf (plain t) → Writes t output after (success (length after ∷ []))
+  filled after none is = record { none = none; values-are = ap (λ (l : List ℕ). length l ∷ []) is; file-is = is }

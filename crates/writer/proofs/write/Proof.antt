@@ -1,17 +1,16 @@
 -- `writer::write` meets its contract. The entry point: what is said of tables and output; where nothing is refused, the output is filled.
 -- Assumes nothing.
 use Prim.Native.Nat.{ℕ}
-use mathlib.Core.Path.{refl, ap}
-use mathlib.Core.List.{List, [], _∷_}
+use mathlib.Core.Path.{refl}
+use mathlib.Core.List.{List}
 use native.Mathlib.Omega.{arith}
-use lib.ListN.{length}
 use denote.Ref.{now}
 use Rattle.refusal.specs.promise.Row.{None}
 use Rattle.refusal.proofs.Rows.{tested-refused, tested-passed}
 use Rattle.game.specs.promise.Tables.{Tables}
 use Rattle.game.specs.promise.Lent.{asked}
 use Rattle.writer.specs.promise.Faults.{writeRows}
-use Rattle.writer.proofs.Lengths.{fillable}
+use Rattle.writer.proofs.Lengths.{fillable, filled}
 use borrow.Author.Needs.{needs}
 use Rattle.writer.proofs.write.Statement.{statement}
 use Rattle.writer.proofs.write.Tie as tie
@@ -59,7 +58,8 @@ returns-2 : tie.Need-returns-2
 returns-2 c =
     let f = c .before .before in
     let e = f .before .before in
-    record { none = none e; values-are = ap (λ (l : List ℕ). length l ∷ []) (f .fill .ensures); file-is = f .fill .ensures }
+    let t = e .before .before in
+    filled (tables t) (output t) _ (none e) (f .fill .ensures)
 
 pub write-spec : {M : Type 1} → statement M
 write-spec =
