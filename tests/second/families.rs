@@ -14,9 +14,18 @@ pub enum Family {
     Ring254,
     Hubs,
     Ladder,
+    Idle(Place),
 }
 
-pub const ALL: [Family; 8] = [
+/// Where Even's only good move stands among 2,000 successors.
+#[derive(Clone, Copy, PartialEq, Eq)]
+pub enum Place {
+    First,
+    Middle,
+    Last,
+}
+
+pub const ALL: [Family; 11] = [
     Family::Relay,
     Family::Sparse10,
     Family::Sparse254,
@@ -25,6 +34,9 @@ pub const ALL: [Family; 8] = [
     Family::Ring254,
     Family::Hubs,
     Family::Ladder,
+    Family::Idle(Place::First),
+    Family::Idle(Place::Middle),
+    Family::Idle(Place::Last),
 ];
 
 const N: usize = MOST_VERTICES;
@@ -40,6 +52,9 @@ impl Family {
             Family::Ring254 => "ring of neighbours, 254 priorities",
             Family::Hubs => "hubs of 1,000 successors, 100 priorities",
             Family::Ladder => "ladder of 400 steps",
+            Family::Idle(Place::First) => "idle states of 2,000 successors, the move first",
+            Family::Idle(Place::Middle) => "idle states of 2,000 successors, the move in the middle",
+            Family::Idle(Place::Last) => "idle states of 2,000 successors, the move last",
         }
     }
 
@@ -65,6 +80,7 @@ impl Family {
                 )
             }
             Family::Ladder => ladder(rng),
+            Family::Idle(place) => idle(place, rng),
         }
     }
 }
@@ -146,5 +162,32 @@ fn ladder(rng: &mut Prng) -> Tables {
     for vertex in &mut vertices {
         vertex.next.sort_unstable();
     }
+    Tables::of(&vertices)
+}
+
+/// Seven idle states, the lowest vertices, with the same 2,000 successors. At each of these the
+/// relay freezes, but for one reading that leads back to an idle state: Even must go there.
+fn idle(place: Place, rng: &mut Prng) -> Tables {
+    let (hubs, many) = (7, 2_000);
+    let mut next: Vec<u16> = (hubs..N as u16).collect();
+    while next.len() > many {
+        next.remove(rng.below(next.len()));
+    }
+    let reading = match place {
+        Place::First => next[0],
+        Place::Middle => next[many / 2],
+        Place::Last => next[many - 1],
+    };
+    let vertices: Vec<Vertex> = (0..N as u16)
+        .map(|v| {
+            if v < hubs {
+                Vertex::new(0, 0, &next)
+            } else if v == reading {
+                Vertex::new(rng.below(2) as u8, 2, &[rng.below(hubs as usize) as u16])
+            } else {
+                Vertex::new(rng.below(2) as u8, 1, &[v])
+            }
+        })
+        .collect();
     Tables::of(&vertices)
 }

@@ -4,7 +4,7 @@ use mathlib.Core.Path.{_≡_, refl, sym, ap, subst, _∙_}
 use mathlib.Core.List.{List}
 use mathlib.Core.Bool.{Bool}
 use lib.ListN.{length, getD}
-use Rattle.game.specs.promise.Game.{Game, Listed}
+use Rattle.game.specs.promise.Game.{Game, Listed, Ascending}
 use Rattle.winning.specs.promise.Faults.{Fault12, Fault13, own, other}
 use Rattle.game.specs.promise.Tables.{nextOf, gameOf, Tables, vertices}
 use Rattle.storage.specs.promise.Answer.{Answer, markRoom, markOf, moveOf}
@@ -48,6 +48,10 @@ module _ {tables : Tables} {answer : Answer} (a : Answered tables answer) {v : �
 
   pub stretch-marks : {r : List ℕ} → r ≡ nextOf (tables .starts) (tables .targets) v → (i : ℕ) → i < length r → getD r i 0 < markRoom (answer .winners)
   stretch-marks e i h = has-room (a .stored) (stretch-inside e i h)
+
+  -- and they ascend
+  pub stretch-ascends : {r : List ℕ} → r ≡ nextOf (tables .starts) (tables .targets) v → Ascending r
+  stretch-ascends e = subst Ascending (sym e) (a .well-formed .sound .ascending v l)
 
   abbrev g : Game
   g = gameOf tables

@@ -11,7 +11,7 @@ ghost use Prim.Native.Nat.{ℕ, _<_};
 ghost use lib.ListN.{length, getD};
 ghost use Rattle.refusal.specs.parts.Found.{Finds};
 ghost use Rattle.refusal.specs.parts.Says.{Says};
-ghost use Rattle.game.specs.promise.Game.{Listed};
+ghost use Rattle.game.specs.promise.Game.{Listed, Ascending};
 ghost use Rattle.game.specs.promise.Tables.{gameOf};
 ghost use Rattle.game.specs.promise.Lent.{asked, lent};
 ghost use Rattle.storage.specs.promise.Answer.{markRoom, markOf, moveOf};
@@ -20,14 +20,16 @@ ghost use Rattle.winning.specs.promise.Faults.{Fault12};
 ghost use Rattle.answers.specs.parts.Answered.{Answered};
 ghost use Rattle.answers.specs.parts.Tests.{OwnMove, WrongMove};
 
-// Whether w is in the stretch.
+// Whether w is in the stretch. As that ascends, the first that is not below w is w, or w is not there.
 fn is_successor(stretch: &[u16], w: u16) -> bool
+    requires { ⌜ Ascending (now stretch) ⌝ }
     ensures { λ r. ⌜ Says (Listed w (now (stretch .entry))) r ⌝ }
 {
     let mut i = 0;
     while i < stretch.len() {
-        if stretch[i] == w {
-            return true;
+        let t = stretch[i];
+        if t >= w {
+            return t == w;
         }
         i += 1;
     }
@@ -37,6 +39,7 @@ fn is_successor(stretch: &[u16], w: u16) -> bool
 // Whether m is a successor with the mark p.
 fn is_own_move(stretch: &[u16], winners: &[Winner], p: Player, m: u16) -> bool
     requires { ⌜ ((i : ℕ) → i < length (now stretch) → getD (now stretch) i 0 < markRoom (now winners)) ⌝ }
+    requires { ⌜ Ascending (now stretch) ⌝ }
     ensures { λ r. ⌜ Says (OwnMove (markOf (now (winners .entry))) (now (stretch .entry)) (p .bit) m) r ⌝ }
 {
     if is_successor(stretch, m) {
@@ -48,6 +51,7 @@ fn is_own_move(stretch: &[u16], winners: &[Winner], p: Player, m: u16) -> bool
 // Whether the move m is wrong at a vertex with the mark p.
 fn is_wrong_move(owner: Player, stretch: &[u16], winners: &[Winner], p: Player, m: u16) -> bool
     requires { ⌜ ((i : ℕ) → i < length (now stretch) → getD (now stretch) i 0 < markRoom (now winners)) ⌝ }
+    requires { ⌜ Ascending (now stretch) ⌝ }
     ensures { λ r. ⌜ Says (WrongMove (markOf (now (winners .entry))) (now (stretch .entry)) (owner .bit) (p .bit) m) r ⌝ }
 {
     if owner.bit == p.bit {

@@ -1,3 +1,4 @@
+pub mod Rising
 pub mod Starts
 pub mod Sizes
 pub mod WellFormed

@@ -1,35 +1,18 @@
 -- The starts: what the test of row 4 has passed, and what follows from starts that pass it.
-use Prim.Native.Nat.{ℕ, zero, suc, _+_, _-_, _<_, _≤_}
+use Prim.Native.Nat.{ℕ, _+_, _-_, _<_, _≤_}
 use mathlib.Core.Path.{_≡_, sym, subst, ap, _∙_}
 use mathlib.Core.Logic.{_≢_}
 use mathlib.Core.List.{List}
 use native.Mathlib.Omega.{arith}
 use native.Mathlib.Decide.{ℕ-discrete, decLe}
-use native.Mathlib.Nat.{le-refl, le-trans, not-suc-le-zero, add-zero, add-suc, add-sub-of-le}
+use native.Mathlib.Nat.{le-refl, not-suc-le-zero}
 use lib.ListN.{length, getD, drop, length-take, length-drop}
 use lib.Seq.{getD-take, getD-drop}
 use Rattle.refusal.specs.promise.Row.{Lowest, NoPlace}
 use Rattle.game.specs.promise.Tables.{nextOf, Placed}
 use Rattle.game.specs.parts.Stretch.{Stretch}
 use Rattle.game.specs.promise.Faults.{Fault4, first, below, last}
-
--- the starts below place v do not fall
-pub record Rising (starts : List ℕ) (v : ℕ) : Type 0 where
-  pub rising : (i : ℕ) → i + 1 < v → getD starts i 0 ≤ getD starts (i + 1) 0
-
-pub rising-one : {starts : List ℕ} → Rising starts 1
-rising-one = record { rising = λ i l. absurd (not-suc-le-zero {n = i} (omega arith)) }
-
-pub rising-more : (starts : List ℕ) (v : ℕ) → 1 ≤ v → getD starts (v - 1) 0 ≤ getD starts v 0 → Rising starts v → Rising starts (v + 1)
-rising-more starts v some here r = record { rising = λ i l. elim (ℕ-discrete (i + 1) v) [ yes e ↦ at i e | no ne ↦ r .rising i (omega arith) ] }
-  where
-    at : (i : ℕ) → i + 1 ≡ v → getD starts i 0 ≤ getD starts (i + 1) 0
-    at i e =
-        let d : i ≡ v - 1 = omega arith in
-        subst (λ (k : ℕ). getD starts k 0 ≤ getD starts (i + 1) 0) (sym d) (subst (λ (k : ℕ). getD starts (v - 1) 0 ≤ getD starts k 0) (sym e) here)
-
-pub rising-to : {starts : List ℕ} {v w : ℕ} → v ≡ w → Rising starts v → Rising starts w
-rising-to {starts} e r = subst (Rising starts) e r
+use Rattle.game.proofs.Rising.{Rising, rising-from}
 
 -- no start that is passed is below the one before
 not-below : (starts : List ℕ) (v b x : ℕ) → Rising starts v → x ≡ b + 1 → x < v → getD starts x 0 < getD starts b 0 → ⊥
@@ -75,26 +58,15 @@ placed-of n starts targets long none =
     up : (v : ℕ) → v < n → getD starts v 0 ≤ getD starts (v + 1) 0
     up v l = elim (decLe (getD starts v 0) (getD starts (v + 1) 0)) [ yes h ↦ h | no h ↦ absurd (none (v + 1) (below v (omega arith) (omega arith) (omega arith))) ]
 
+placed-rising : (n : ℕ) (starts targets : List ℕ) → Placed n starts targets → Rising starts (length starts)
+placed-rising n starts targets p = record { rising = λ i l. let e = p .bounds in p .onward i (omega arith) }
+
 pub none-of-placed : (n : ℕ) (starts targets : List ℕ) → Placed n starts targets → NoPlace (Fault4 starts targets)
-none-of-placed n starts targets p =
-    none-found starts targets n (p .first) (sym (p .bounds)) (record { rising = λ i l. p .onward i (up i l) }) (p .last)
-  where
-    up : (i : ℕ) → i + 1 < length starts → i < n
-    up i l = let e = p .bounds in omega arith
+none-of-placed n starts targets p = none-found starts targets n (p .first) (sym (p .bounds)) (placed-rising n starts targets p) (p .last)
 
 -- a start is at most any later one
-pub onward-to : (n : ℕ) (starts targets : List ℕ) → Placed n starts targets → (d v : ℕ) → v + d ≤ n → getD starts v 0 ≤ getD starts (v + d) 0
-onward-to n starts targets p zero v l = rw add-zero (le-refl _)
-onward-to n starts targets p (suc d) v l =
-    let l′ : v + d < n = rw add-suc at l in
-    let a : getD starts v 0 ≤ getD starts (v + d) 0 = onward-to n starts targets p d v (omega arith) in
-    let b : getD starts (v + d) 0 ≤ getD starts (v + d + 1) 0 = p .onward (v + d) l′ in
-    let e : v + d + 1 ≡ v + suc d = omega arith in
-    subst (λ (k : ℕ). getD starts v 0 ≤ getD starts k 0) e (le-trans a b)
-
 pub onward-from : (n : ℕ) (starts targets : List ℕ) → Placed n starts targets → (v w : ℕ) → v ≤ w → w ≤ n → getD starts v 0 ≤ getD starts w 0
-onward-from n starts targets p v w a b =
-    subst (λ (k : ℕ). getD starts v 0 ≤ getD starts k 0) (add-sub-of-le a) (onward-to n starts targets p (w - v) v (omega arith))
+onward-from n starts targets p v w a b = let e = p .bounds in rising-from (placed-rising n starts targets p) v w a (omega arith)
 
 pub stretch-of : (n : ℕ) (starts targets : List ℕ) → Placed n starts targets → (v : ℕ) → v < n → Stretch starts targets v
 stretch-of n starts targets p v l =

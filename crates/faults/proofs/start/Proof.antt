@@ -1,8 +1,9 @@
--- `faults::start` meets its contract. Row 4: the starts passed do not fall (Starts.Rising), and the last is looked at by itself.
+-- `faults::start` meets its contract. Row 4: the starts passed do not fall (Rising), and the last is looked at by itself.
 -- Assumes nothing.
 use borrow.Author.Needs.{needs}
 use mathlib.Core.Path.{sym, _∙_}
-use Rattle.game.proofs.Starts.{Rising, rising-one, rising-more, rising-to, first-found, below-found, last-found, none-found}
+use Rattle.game.proofs.Rising.{Rising, rising-one, rising-more, rising-to}
+use Rattle.game.proofs.Starts.{first-found, below-found, last-found, none-found}
 use lib.ListN.{length}
 use Prim.Native.Nat.{_≤_, _-_}
 use Rattle.faults.proofs.start.Statement.{statement}

@@ -16,7 +16,7 @@ wide-requires c κs = search needs
 mark-requires : tie.Need-mark-requires
 mark-requires c κs =
     let h = c .before .before .is-successor .ensures .holds (c .before .if1 .taken) in
-    rw (c .wide .ensures) (rw (h .is) at (c .before .before .before .before .before .pre (h .at) (h .within)))
+    rw (c .wide .ensures) (rw (h .is) at (c .before .before .before .before .before .pre .0 (h .at) (h .within)))
 
 returns : tie.Need-returns
 returns c =

@@ -1,7 +1,7 @@
 -- `answers::moves::wrong_move` meets its contract. Row 12 is a scan; at each vertex the test by its stretch is the row (Stretches.says12).
 -- Assumes nothing.
 use borrow.Author.Needs.{needs}
-use Rattle.answers.proofs.Stretches.{stretch-marks, says12}
+use Rattle.answers.proofs.Stretches.{stretch-marks, stretch-ascends, says12}
 use Rattle.winning.specs.promise.Faults.{Fault12, own, other}
 use Rattle.game.proofs.Starts.{stretch-of}
 use Rattle.game.specs.promise.Tables.{gameOf, tablesOf}
@@ -41,7 +41,9 @@ successors-requires : tie.Need-successors-requires Inv-loop μ-loop
 successors-requires c κs = stretch-of _ _ _ (start (c .before .before .before .before) .pre .well-formed .placed) _ (search needs)
 
 is-wrong-move-requires : tie.Need-is-wrong-move-requires Inv-loop μ-loop
-is-wrong-move-requires c κs = stretch-marks (start (c .before .before .before .before .before) .pre) (search needs) (c .successors .ensures)
+is-wrong-move-requires c κs =
+    let answered = start (c .before .before .before .before .before) .pre in
+    (stretch-marks answered (search needs) (c .successors .ensures), stretch-ascends answered (search needs) (c .successors .ensures))
 
 returns : tie.Need-returns Inv-loop μ-loop
 returns c =
