@@ -1,5 +1,6 @@
-//! The library's calls on full-size games of every family and on the largest file, as the
-//! benchmark measures them, and nothing else: a line for each family and call, milliseconds.
+//! The library's calls on full-size games of every family, on moves that are no successors and on
+//! the largest file, as the benchmark measures them, and nothing else: a line for each family and
+//! call, milliseconds.
 //! bench/compare links it to two archives and puts them side by side.
 
 // What the second program uses of these modules is more than what is used here.
@@ -27,6 +28,7 @@ mod shapes;
 
 #[allow(dead_code)]
 mod library;
+mod refused;
 #[allow(dead_code)]
 mod timing;
 mod updates;
@@ -46,27 +48,28 @@ const CALLS: [&str; 4] = ["solve", "check", "update, few reached", "update, any 
 const LARGEST: &[u8] = include_bytes!("../tests/listing/largest_84_blocks.game");
 
 fn main() -> ExitCode {
-    match median(&mut Lent::new(), Lent::spoil, |lent| lent.read(LARGEST)) {
-        Ok(time) => println!("the largest file;read;{time:.4}"),
+    match print_all() {
+        Ok(()) => ExitCode::SUCCESS,
         Err(what) => {
-            println!("read: {what}");
-            return ExitCode::FAILURE;
+            println!("{what}");
+            ExitCode::FAILURE
         }
     }
+}
+
+fn print_all() -> Result<(), String> {
+    let read = median(&mut Lent::new(), Lent::spoil, |lent| lent.read(LARGEST));
+    println!("the largest file;read;{:.4}", read.map_err(|what| format!("read: {what}"))?);
     for family in families::ALL {
-        match figures(family) {
-            Ok(times) => {
-                for (call, time) in CALLS.iter().zip(times) {
-                    println!("{};{call};{time:.4}", family.name());
-                }
-            }
-            Err(what) => {
-                println!("{}: {what}", family.name());
-                return ExitCode::FAILURE;
-            }
+        let times = figures(family).map_err(|what| format!("{}: {what}", family.name()))?;
+        for (call, time) in CALLS.iter().zip(times) {
+            println!("{};{call};{time:.4}", family.name());
         }
     }
-    ExitCode::SUCCESS
+    for (place, time) in refused::times()? {
+        println!("{}, {place};check;{time:.4}", refused::NAME);
+    }
+    Ok(())
 }
 
 /// Of three games the worst.

@@ -35,6 +35,21 @@ impl Buffers {
         succeeded(ffi::check(game.view(), &answer.winners, &answer.moves, &mut self.work)).map(drop)
     }
 
+    /// A check that must refuse with this number and place.
+    pub fn refused(
+        &mut self,
+        game: &Tables,
+        answer: &Answer,
+        number: u64,
+        value: u64,
+    ) -> Result<(), String> {
+        let said = ffi::check(game.view(), &answer.winners, &answer.moves, &mut self.work);
+        if said == (Said { number, value }) {
+            return Ok(());
+        }
+        Err(format!("{said:?}, not {number} at {value}"))
+    }
+
     /// The count.
     pub fn update(&mut self, first: &Tables, second: &Tables, old: &Answer) -> Result<u64, String> {
         let Buffers { winners, moves, work } = self;

@@ -41,6 +41,7 @@ mod freezing;
 mod hard;
 mod justifications;
 mod library;
+mod refused;
 mod timing;
 mod updates;
 
@@ -90,33 +91,32 @@ struct Measured {
 }
 
 fn main() -> ExitCode {
+    match print_all() {
+        Ok(()) => ExitCode::SUCCESS,
+        Err(what) => {
+            println!("{what}");
+            ExitCode::FAILURE
+        }
+    }
+}
+
+fn print_all() -> Result<(), String> {
     println!("| {} |", COLUMNS.join(" | "));
     println!("|{}", "---|".repeat(COLUMNS.len()));
     for family in families::ALL {
-        match row(family) {
-            Ok(row) => println!("{row}"),
-            Err(what) => {
-                println!("{}: {what}", family.name());
-                return ExitCode::FAILURE;
-            }
-        }
+        println!("{}", row(family).map_err(|what| format!("{}: {what}", family.name()))?);
     }
-    match largest_file() {
-        Ok((read, write)) => println!(
-            "\nthe largest file: read {read:.3}, write {write:.3}, write / read {:.2}",
-            write.over(read)
-        ),
-        Err(what) => {
-            println!("the largest file: {what}");
-            return ExitCode::FAILURE;
-        }
+    println!("\n{}:", refused::NAME);
+    for (place, time) in refused::times()? {
+        println!("{place}: check {time:.3}");
     }
+    let (read, write) = largest_file().map_err(|what| format!("the largest file: {what}"))?;
+    println!(
+        "\nthe largest file: read {read:.3}, write {write:.3}, write / read {:.2}",
+        write.over(read)
+    );
     println!("\n{NOTES}");
-    if let Err(what) = hard::table() {
-        println!("{what}");
-        return ExitCode::FAILURE;
-    }
-    ExitCode::SUCCESS
+    hard::table()
 }
 
 /// Read, and written from what was read.

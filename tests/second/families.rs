@@ -2,7 +2,7 @@
 
 use crate::game::{Tables, Vertex, MOST_VERTICES};
 use crate::prng::Prng;
-use crate::shapes::{drawn, list};
+use crate::shapes::{chosen, drawn, list};
 
 #[derive(Clone, Copy, PartialEq, Eq)]
 pub enum Family {
@@ -52,9 +52,9 @@ impl Family {
             Family::Ring254 => "ring of neighbours, 254 priorities",
             Family::Hubs => "hubs of 1,000 successors, 100 priorities",
             Family::Ladder => "ladder of 400 steps",
-            Family::Idle(Place::First) => "idle states of 2,000 successors, the move first",
-            Family::Idle(Place::Middle) => "idle states of 2,000 successors, the move in the middle",
-            Family::Idle(Place::Last) => "idle states of 2,000 successors, the move last",
+            Family::Idle(Place::First) => "hubs of 2,000 successors, the move first",
+            Family::Idle(Place::Middle) => "hubs of 2,000 successors, the move in the middle",
+            Family::Idle(Place::Last) => "hubs of 2,000 successors, the move last",
         }
     }
 
@@ -169,23 +169,20 @@ fn ladder(rng: &mut Prng) -> Tables {
 /// relay freezes, but for one reading that leads back to an idle state: Even must go there.
 fn idle(place: Place, rng: &mut Prng) -> Tables {
     let (hubs, many) = (7, 2_000);
-    let mut next: Vec<u16> = (hubs..N as u16).collect();
-    while next.len() > many {
-        next.remove(rng.below(next.len()));
-    }
+    let next = chosen(many, hubs..N, rng);
     let reading = match place {
         Place::First => next[0],
         Place::Middle => next[many / 2],
         Place::Last => next[many - 1],
     };
-    let vertices: Vec<Vertex> = (0..N as u16)
+    let vertices: Vec<Vertex> = (0..N)
         .map(|v| {
             if v < hubs {
                 Vertex::new(0, 0, &next)
-            } else if v == reading {
-                Vertex::new(rng.below(2) as u8, 2, &[rng.below(hubs as usize) as u16])
+            } else if v == reading as usize {
+                Vertex::new(rng.below(2) as u8, 2, &[rng.below(hubs) as u16])
             } else {
-                Vertex::new(rng.below(2) as u8, 1, &[v])
+                Vertex::new(rng.below(2) as u8, 1, &[v as u16])
             }
         })
         .collect();

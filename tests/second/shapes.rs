@@ -2,6 +2,7 @@
 
 use crate::game::{Tables, Vertex};
 use crate::prng::Prng;
+use std::ops::Range;
 
 /// Hands over every game of exactly `n` vertices with priorities 0 to `highest`.
 pub fn every(n: usize, highest: usize, mut hand_over: impl FnMut(Tables)) {
@@ -33,6 +34,15 @@ pub fn list(next: impl Iterator<Item = usize>) -> Vec<u16> {
 /// A well-formed list from `count` drawings, at least one.
 pub fn drawn(count: usize, mut draw: impl FnMut() -> usize) -> Vec<u16> {
     list((0..count).map(|_| draw()))
+}
+
+/// So many of these vertices.
+pub fn chosen(many: usize, from: Range<usize>, rng: &mut Prng) -> Vec<u16> {
+    let mut all = list(from);
+    while all.len() > many {
+        all.remove(rng.below(all.len()));
+    }
+    all
 }
 
 /// A random game of 1 to 40 vertices, of any shape.

@@ -3,7 +3,7 @@
 use crate::amend;
 use crate::compare;
 use crate::families;
-use crate::game::{Answer, Tables, NO_MOVE};
+use crate::game::{Answer, Tables, Vertex, NO_MOVE};
 use crate::group::Group;
 use crate::prng::Prng;
 use crate::shapes;
@@ -30,6 +30,42 @@ pub fn full(group: &mut Group) {
         }
     }
     group.must_have_seen(&[11, 12, 13, 14], 5);
+}
+
+/// Every number as the move of a hub, in games where all priorities are even: the answer is right
+/// exactly if the number is a successor.
+pub fn every_move(group: &mut Group) {
+    let mut rng = Prng::new(530);
+    for (n, many) in [(1, 1), (2, 1), (3, 2), (70, 1), (70, 35), (70, 69), (2_048, 2_000)] {
+        let hub = rng.below(n);
+        let game = with_hub(n, hub, many, &mut rng);
+        let mut answer = zielonka::solve(&game);
+        for number in (0..n as u16 + 2).chain([NO_MOVE - 1, NO_MOVE]) {
+            answer.moves[hub] = number;
+            let accepted = group.take(compare::check(&game, &answer, &mut rng)).is_some();
+            group.agree(accepted == game.next(hub).contains(&number), || {
+                format!("the move {number} at {hub}: {accepted}\n{game:?}")
+            });
+        }
+    }
+    group.must_have_seen(&[0], 2_000);
+    group.must_have_seen(&[12], 150);
+}
+
+/// A game that Even wins everywhere, with a vertex of his that has so many successors.
+fn with_hub(n: usize, hub: usize, many: usize, rng: &mut Prng) -> Tables {
+    let vertices: Vec<Vertex> = (0..n)
+        .map(|v| Vertex {
+            owner: if v == hub { 0 } else { rng.below(2) as u8 },
+            priority: rng.one_of(&[0, 2, 4]),
+            next: if v == hub {
+                shapes::chosen(many, 0..n, rng)
+            } else {
+                shapes::drawn(3, || rng.below(n))
+            },
+        })
+        .collect();
+    Tables::of(&vertices)
 }
 
 /// So many answers, each with one to three changes.

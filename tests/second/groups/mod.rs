@@ -40,6 +40,7 @@ pub fn all() -> Vec<Named> {
         named("buffers of wrong lengths", buffers::wrong_lengths),
         named("perturbed answers", answers::small),
         named("perturbed answers, full size", answers::full),
+        named("every number as the move of a hub", answers::every_move),
         named("amendments of 0 to 5 vertices", amendments::small),
         named("amendments of 0 to 5 vertices, full size", amendments::full),
         named("updates from a wrong old answer", amendments::wrong_old_answers),
