@@ -20,20 +20,24 @@ ghost use Rattle.winning.specs.promise.Faults.{Fault12};
 ghost use Rattle.answers.specs.parts.Answered.{Answered};
 ghost use Rattle.answers.specs.parts.Tests.{OwnMove, WrongMove};
 
-// Whether w is in the stretch. As that ascends, the first that is not below w is w, or w is not there.
+// Whether w is in the stretch. As that ascends, the first that is not below w is w, or w is not there; and there is such a first one unless the
+// last is below w.
 fn is_successor(stretch: &[u16], w: u16) -> bool
     requires { ⌜ Ascending (now stretch) ⌝ }
     ensures { λ r. ⌜ Says (Listed w (now (stretch .entry))) r ⌝ }
 {
+    let many = stretch.len();
+    if many == 0 {
+        return false;
+    }
+    if stretch[many - 1] < w {
+        return false;
+    }
     let mut i = 0;
-    while i < stretch.len() {
-        let t = stretch[i];
-        if t >= w {
-            return t == w;
-        }
+    while stretch[i] < w {
         i += 1;
     }
-    false
+    stretch[i] == w
 }
 
 // Whether m is a successor with the mark p.
