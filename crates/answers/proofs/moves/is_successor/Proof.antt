@@ -1,4 +1,4 @@
--- `answers::moves::is_successor` meets its contract. A scan that ends before the last at the latest, since that is not below w; the invariant: every
+-- `answers::moves::is_successor` meets its contract. A scan that ends at the last at the latest, since that is not below w; the invariant: every
 -- successor passed is below w. As the stretch ascends, none behind the first that is not below w is lower than that one.
 -- Assumes nothing.
 use borrow.Author.Needs.{needs}
