@@ -7,7 +7,7 @@ use Rattle.game.proofs.Rising.{ascending-from}
 use borrow.Author.Count.{below-none, below-more}
 use lib.ListN.{length, getD}
 use mathlib.Core.List.{List}
-use mathlib.Core.Path.{_≡_, ap}
+use mathlib.Core.Path.{ap}
 use Prim.Native.Nat.{ℕ, _≤_, _<_, _+_, _-_}
 use native.Mathlib.Decide.{ℕ-discrete, decLt}
 use native.Mathlib.Omega.{arith}
