@@ -1,4 +1,6 @@
 // The tables of a game: owners and priorities are bytes, starts and targets 16-bit numbers.
+#![tactic(auto)]
+
 pub mod buffers;
 pub mod vertex;
 

@@ -1,4 +1,5 @@
 // The reader of the house game file.
+#![tactic(auto)]
 mod copy;
 pub mod reader;
 

@@ -1,4 +1,6 @@
 // The two players, by the bytes that name them: 0 for Even, 1 for Odd.
+#![tactic(auto)]
+
 ghost use Rattle.std.specs.Prelude.{◌≡◌};
 ghost use Rattle.player.specs.promise.Player.{opponent_of, parity_of};
 

@@ -1,2 +1,3 @@
 // The closure backwards over a game's edges.
+#![tactic(auto)]
 pub mod closure;

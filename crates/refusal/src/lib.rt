@@ -1,4 +1,6 @@
 // Every refusal carries its kind, an enum that gives its number, and its place. docs/RULES.md has the table.
+#![tactic(auto)]
+
 ghost use Rattle.std.specs.Prelude.{◌≡◌, ◌+◌, ◌<◌};
 ghost use Rattle.refusal.specs.promise.Number.{number_of, table_number, answer_number, file_number};
 ghost use Rattle.refusal.specs.parts.Found.{Joins, Follows};

@@ -1,4 +1,5 @@
 // Winners and moves as they are stored: the one room that knows it. Rows 8 and 11.
+#![tactic(auto)]
 pub mod answer;
 pub mod lent;
 pub mod marks;

@@ -1,0 +1,10 @@
+-- `space::desk::piled` meets its contract: the cell is one of the pile (Desks).
+use native.Mathlib.Omega.{arith}
+use Rattle.space.proofs.Desks.{laid_cells, piled_read}
+use Rattle.space.proofs.desk.piled.Goals as goal
+
+pub bounds-desk-i : goal.bounds-desk-i
+bounds-desk-i c = omega (arith, laid_cells _ c.requires.0, c.requires.1)
+
+pub returns : goal.returns
+returns c = piled_read _ _ _ (omega arith) c.requires.1

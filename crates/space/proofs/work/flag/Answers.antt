@@ -1,0 +1,7 @@
+-- `space::work::flag` meets its contract: the cell is one of section 0 (Sections).
+use native.Mathlib.Omega.{arith}
+use Rattle.space.proofs.Sections.{section_read}
+use Rattle.space.proofs.work.flag.Goals as goal
+
+pub returns : goal.returns
+returns c = let w = c.requires in section_read _ _ w.long 0 _ (omega arith) w.within
