@@ -1,5 +1,6 @@
 // A test for each of the rows 1 to 7: the lowest place at which it applies, or that it applies nowhere.
 #![tactic(auto)]
+
 ghost use Rattle.std.specs.Prelude.{◌<◌, length};
 ghost use Rattle.refusal.specs.parts.Found.{Finds};
 ghost use Rattle.game.specs.promise.Tables.{Placed};

@@ -1,5 +1,6 @@
 // Winners and moves as they are stored: the one room that knows it. Rows 8 and 11.
 #![tactic(auto)]
+
 pub mod answer;
 pub mod lent;
 pub mod marks;

@@ -3,7 +3,7 @@ use Prim.Native.Nat.{ℕ, zero, suc, ◌<◌}
 use mathlib.Core.Path.{◌≡◌, refl, subst}
 use mathlib.Core.Bool.{Bool, ◌||◌}
 use mathlib.Core.Logic.{◌⊎◌, inl, inr, ⊎_elim}
-use native.Mathlib.Nat.{eq-or-lt_of_le, le_of_suc-le-suc, lt-suc_self, not-suc-le-zero}
+use native.Mathlib.Nat.{eq-or-lt_of_le, le_of_suc-le-suc, not-suc-le-zero}
 use native.Mathlib.Omega.{arith}
 use lib.Dec.{eqb}
 use Rattle.winning.specs.promise.Walk.{Walk, stay, step}
@@ -28,9 +28,12 @@ module _ {S : ℕ → ℕ → Type 0} where
   via_wider (one s) = one s
   via_wider (more s l a) = more s (omega arith) (via_wider a)
 
+  join_at : {k v w u : ℕ} → Via S k v w → w ≡ k → Via S (suc k) w u → Via S (suc k) v u
+  join_at (one s) e b = more s (omega arith) b
+  join_at (more s l a) e b = more s (omega arith) (join_at a e b)
+
   via_join : {k v u : ℕ} → Via S k v k → Via S (suc k) k u → Via S (suc k) v u
-  via_join {k} (one s) b = more s (lt-suc_self k) b
-  via_join (more s l a) b = more s (omega arith) (via_join a b)
+  via_join a b = join_at a refl b
 
   cut_here : {k v u : ℕ} → S v k → Cut S k k u → Cut S k v u
   cut_here s (inl b) = inr (one s, b)

@@ -1,5 +1,4 @@
 -- `space::fill::fill` meets its contract. The invariant: the cells below i hold the value, and the length is as it was.
-use Prim.Native.Nat.{◌-◌}
 use Rattle.lists.proofs.Stores.{filling_none, filling_more, filling_all}
 use Rattle.space.proofs.fill.fill.Goals as goal
 
