@@ -1,5 +1,6 @@
 // The predecessors of each vertex, listed once for a game: its edges the other way round.
 #![tactic(auto)]
+
 pub mod build;
 
 // How many numbers say where the vertices' stretches start: one for each vertex, and one for where the last ends.

@@ -1,5 +1,6 @@
 // The test of the tables: the first of 1 to 7 that applies, with its place.
 #![tactic(auto)]
+
 ghost use Rattle.refusal.specs.promise.Row.{Gives};
 ghost use Rattle.refusal.specs.parts.Found.{tested_said};
 ghost use Rattle.game.specs.promise.Faults.{table_rows};
