@@ -1,5 +1,6 @@
 // Levels: for each settled vertex a priority below which its support leads to no open vertex.
 #![tactic(auto)]
+
 ghost use Rattle.space.specs.parts.Desk.{desk_of};
 ghost use Rattle.levels.specs.parts.Levels.{Seen, FloorOf, LevelRoom, ByPriority};
 

@@ -1,3 +1,4 @@
 // The closure backwards over a game's edges.
 #![tactic(auto)]
+
 pub mod closure;
