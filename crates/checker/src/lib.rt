@@ -1,5 +1,6 @@
 // The checker of answers: whether winners and moves, from anyone, are right for a game.
 #![tactic(auto)]
+
 ghost use Rattle.std.specs.Prelude.{◌≡◌};
 ghost use Rattle.refusal.specs.parts.Found.{tested_said};
 ghost use Rattle.game.specs.promise.Lent.{asked, lent};

@@ -1,5 +1,6 @@
 // The vertices from which to attract next, the last first. They stand on the desk.
 #![tactic(auto)]
+
 ghost use Rattle.space.specs.parts.Desk.{desk_of};
 ghost use Rattle.pile.specs.parts.Pile.{Pushable, PushedOn};
 

@@ -4,7 +4,7 @@
 ghost use Rattle.std.specs.Prelude.{◌≡◌};
 ghost use Rattle.player.specs.promise.Player.{opponent_of, parity_of};
 
-#[derive(Drop)]
+#[derive(Clone, Copy)]
 pub struct Player {
     pub bit: u8,
 }

@@ -1,5 +1,6 @@
 // Opening again what the closure has queued.
 #![tactic(auto)]
+
 ghost use Rattle.std.specs.Prelude.{◌≤◌};
 ghost use Rattle.space.specs.parts.Desk.{desk_of};
 ghost use Rattle.waiting.specs.parts.Moves.{Standable};
