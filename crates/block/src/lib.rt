@@ -1,5 +1,6 @@
 // A block's own tests: its check (42), its number and kind (43), its other bytes (44).
 #![tactic(auto)]
+
 ghost use Rattle.std.specs.Prelude.{◌+◌, ◌≤◌, length};
 ghost use Rattle.refusal.specs.parts.Found.{Finds, tested_said};
 ghost use Rattle.refusal.specs.promise.Row.{Gives};

@@ -1,5 +1,6 @@
 // One block of a file, put into the part of the output that is its own: six bytes that name it, its payload, zeros, its check.
 #![tactic(auto)]
+
 ghost use Rattle.std.specs.Prelude.{◌+◌, length};
 ghost use Rattle.game.specs.promise.Lent.{asked, lent};
 ghost use Rattle.format.specs.promise.Format.{plain, used_of, body_byte, block_byte};

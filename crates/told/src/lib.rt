@@ -1,5 +1,6 @@
 // Number and value of what an entry point says, for the C interface.
 #![tactic(auto)]
+
 ghost use Rattle.std.specs.Prelude.{◌<◌, ◌≡◌, [], ◌∷◌};
 ghost use Rattle.told.specs.promise.Told.{value_of};
 ghost use Rattle.told.specs.parts.Handing.{Gave};

@@ -1,5 +1,6 @@
 // The writer of the house game file: the tables and the length of the output are tested, then block after block is put.
 #![tactic(auto)]
+
 ghost use Rattle.std.specs.Prelude.{◌≡◌};
 ghost use Rattle.refusal.specs.promise.Row.{Gives};
 ghost use Rattle.refusal.specs.parts.Found.{Finds, tested_said};
