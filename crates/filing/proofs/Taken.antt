@@ -35,13 +35,13 @@ module _ (file : List ℕ) (bytes : (i : ℕ) → get_or file i 0 < 256) where
   target_byte : (e j : ℕ) → e < edges_filed file → j < 2 → byte_at file (target_place file e + j) ≡ low_high (get_or (targets_filed file) e 0) j
   target_byte e j l m = word_byte_lem (target_place file e) (get_or (targets_filed file) e 0) j (sym (target_at_lem file e l)) m
 
-  head_byte : (k : ℕ) → k < 5 → byte_at file (6 + k) ≡ head_byte (filed file) k
-  head_byte zero l = omega (arith, owners_long file, bytes 6)
-  head_byte (suc zero) l = omega (arith, owners_long file, bytes 6)
-  head_byte (suc (suc zero)) l = omega (arith, targets_long file, bytes 8)
-  head_byte (suc (suc (suc zero))) l = omega (arith, targets_long file, bytes 8)
-  head_byte (suc (suc (suc (suc zero)))) l = refl
-  head_byte (suc (suc (suc (suc (suc k))))) l = absurd (let z : ⊥ = omega arith in z)
+  head_byte_lem : (k : ℕ) → k < 5 → byte_at file (6 + k) ≡ head_byte (filed file) k
+  head_byte_lem zero l = omega (arith, owners_long file, bytes 6)
+  head_byte_lem (suc zero) l = omega (arith, owners_long file, bytes 6)
+  head_byte_lem (suc (suc zero)) l = omega (arith, targets_long file, bytes 8)
+  head_byte_lem (suc (suc (suc zero))) l = omega (arith, targets_long file, bytes 8)
+  head_byte_lem (suc (suc (suc (suc zero)))) l = refl
+  head_byte_lem (suc (suc (suc (suc (suc k))))) l = absurd (let z : ⊥ = omega arith in z)
 
   module _ (s : Summed file) where
     vertex_byte_lem : (v j : ℕ) → v < vertices_filed file → j < 4 → byte_at file (vertex_place file v + j) ≡ vertex_byte (filed file).tables v j
@@ -53,7 +53,7 @@ module _ (file : List ℕ) (bytes : (i : ℕ) → get_or file i 0 < 256) where
 
     -- the used payload of block b
     payload : (b k : ℕ) → b < blocks_of (vertices_filed file) (edges_filed file) → k < 504 → k < used_of (vertices_filed file) (edges_filed file) b → byte_at file (512 * b + 6 + k) ≡ payload_byte (filed file) b k
-    payload zero k l m u = head_byte k u
+    payload zero k l m u = head_byte_lem k u
     payload (suc b) k l m u = at (dec_lt b (vertex_blocks (vertices_filed file)))
       where
         at : Dec (b < vertex_blocks (vertices_filed file)) → byte_at file (512 * suc b + 6 + k) ≡ payload_byte (filed file) (suc b) k

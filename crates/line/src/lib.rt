@@ -1,5 +1,6 @@
 // The test of a vertex by its successors' marks.
 #![tactic(auto)]
+
 ghost use Rattle.std.specs.Prelude.{◌≡◌, get_or};
 ghost use Rattle.game.specs.promise.Lent.{asked, lent};
 ghost use Rattle.line.specs.parts.Testing.{Testable, TestedBy};
