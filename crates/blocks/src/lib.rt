@@ -1,5 +1,6 @@
 // The blocks of a file: the header and block 0 (`head`), then each block after it in turn: 42, 43, 44.
 #![tactic(auto)]
+
 ghost use Rattle.refusal.specs.promise.Row.{Gives};
 ghost use Rattle.refusal.specs.parts.Found.{tested_said};
 ghost use Rattle.format.specs.promise.Faults.{turn_rows};

@@ -1,5 +1,6 @@
 // The update's tests before the checker's: both games' tables, their sizes, the lengths of the five lent lists.
 #![tactic(auto)]
+
 ghost use Rattle.std.specs.Prelude.{◌≡◌};
 ghost use Rattle.refusal.specs.promise.Row.{Gives};
 ghost use Rattle.refusal.specs.parts.Found.{Finds, tested_said};

@@ -1,5 +1,6 @@
 // One step of the method: an open vertex gets a line and is settled with it, or turned to the opponent.
 #![tactic(auto)]
+
 ghost use Rattle.std.specs.Prelude.{length};
 ghost use Rattle.space.specs.parts.Desk.{desk_of};
 ghost use Rattle.turn.specs.parts.Turning.{Turnable};

@@ -1,5 +1,6 @@
 // Turning a vertex to the opponent: what leans on it is opened again.
 #![tactic(auto)]
+
 ghost use Rattle.space.specs.parts.Desk.{desk_of};
 ghost use Rattle.turn.specs.parts.Turning.{Turnable, TurnedIn};
 
