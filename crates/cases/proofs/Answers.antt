@@ -28,7 +28,7 @@ listed_one : {w x : ℕ} → x ≡ w → Listed w (x ∷ [])
 listed_one e = record { at = 0; within = zero-lt-suc 0; is = e }
 
 module _ (t : Tables) (a : Answer) where
-  -- a right answer to a well_formed game, with a line for each vertex
+  -- a right answer to a well-formed game, with a line for each vertex
   pub record Answered : Type 0 where
     pub bytes : (v : ℕ) → get_or t.priorities v 0 < 256
     pub formed : WellFormed t

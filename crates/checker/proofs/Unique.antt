@@ -45,7 +45,7 @@ module _ (t : Tables) (a : Answer) (work : List ℕ) where
   pub answer_unique : (work1 work2 : List ℕ) (v w : Verdict) → Checks t a work work1 (verdict_said v) → Checks t a work work2 (verdict_said w) → v ≡ w
   answer_unique work1 work2 v w x y = said_unique v w (checks_unique work1 work2 (verdict_said v) (verdict_said w) x y).0
 
-  -- an accepted answer is right, and a right one to a well_formed game, in lists that fit, is accepted
+  -- an accepted answer is right, and a right one to a well-formed game, in lists that fit, is accepted
   pub accepted_is_right : (work' : List ℕ) → Checks t a work work' (success []) → IsRight t a
   accepted_is_right work' x = x.right
 

@@ -1,4 +1,4 @@
--- No row refuses a file exactly if it is the file of well_formed tables and a rule; and those are what is filed in it.
+-- No row refuses a file exactly if it is the file of well-formed tables and a rule; and those are what is filed in it.
 use Prim.Native.Nat.{ℕ, ◌<◌, ◌≤◌}
 use mathlib.Core.Path.{◌≡◌, refl, sym, subst, subst₂, subst₃}
 use mathlib.Core.Logic.{◌↔◌}

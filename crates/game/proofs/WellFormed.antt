@@ -106,7 +106,7 @@ module _ (t : Tables) where
   pub accepted_iff_well_formed : ((v : ℕ) → get_or t.priorities v 0 < 256) → None (table_rows t) ↔ WellFormed t
   accepted_iff_well_formed bytes = (well_formed bytes, none_applies)
 
-  -- every target of a well_formed game is a vertex
+  -- every target of a well-formed game is a vertex
   pub targets_inside : WellFormed t → (e : ℕ) → e < length t.targets → get_or t.targets e 0 < vertices t
   targets_inside w e l =
       elim (dec_lt (get_or t.targets e 0) (vertices t)) [

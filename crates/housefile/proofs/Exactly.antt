@@ -1,4 +1,4 @@
--- Success on a file: exactly if it is the file of well_formed tables and a rule; and the tables that are read are well formed.
+-- Success on a file: exactly if it is the file of well-formed tables and a rule; and the tables that are read are well formed.
 use Prim.Native.Nat.{ℕ, ◌<◌}
 use mathlib.Core.Path.{◌≡◌}
 use mathlib.Core.Logic.{◌↔◌}
@@ -20,6 +20,6 @@ module _ (file : List ℕ) (lent : Tables) (bytes : (i : ℕ) → get_or file i 
       let e = judged_exactly_if file bytes in
       ((λ none. e.0 (all_judged file lent none)), λ f. rows_none file lent (e.1 f) fit)
 
-  -- the tables of a file that is read are those of a well_formed game
+  -- the tables of a file that is read are those of a well-formed game
   pub read_well_formed : None (file_rows file lent) → WellFormed (tables_filed file)
   read_well_formed none = judged_well_formed file bytes (all_judged file lent none)

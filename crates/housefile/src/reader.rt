@@ -1,6 +1,7 @@
 // The entry point: what is judged, and then the tables.
 ghost use Rattle.std.specs.Prelude.{◌≡◌, ◌≤◌, length};
 ghost use Rattle.refusal.specs.parts.Found.{Finds};
+ghost use Rattle.game.specs.promise.Tables.{tables_of};
 ghost use Rattle.game.specs.promise.Lent.{Fault8, asked, lent, written};
 ghost use Rattle.format.specs.promise.Filed.{vertices_filed, edges_filed};
 ghost use Rattle.housefile.specs.promise.Faults.{lent_lengths};
@@ -35,7 +36,7 @@ fn store(
     starts: &mut [u16],
     targets: &mut [u16],
 )
-    requires { SameLengths (asked own ranks bounds ends) (asked owners priorities starts targets) }
+    requires { SameLengths (asked own ranks bounds ends) (tables_of owners.old priorities.old starts.old targets.old) }
     ensures { Stored (lent own ranks bounds ends) (written owners priorities starts targets) }
 {
     copy::bytes(own, owners);
@@ -63,7 +64,7 @@ pub fn read(
     starts: &mut [u16],
     targets: &mut [u16],
 ) -> Read
-    ensures { Reads file.now (lent owners priorities starts targets) (written owners priorities starts targets) (read_said result) }
+    ensures { Reads file.now (tables_of owners.old priorities.old starts.old targets.old) (written owners priorities starts targets) (read_said result) }
 {
     let mut own = [0u8; VERTICES];
     let mut ranks = [0u8; VERTICES];

@@ -6,7 +6,7 @@ ghost use Rattle.refusal.specs.promise.Row.{Gives};
 ghost use Rattle.refusal.specs.parts.Found.{Finds, tested_said};
 ghost use Rattle.refusal.specs.declared.TableFault.{TableFault};
 ghost use Rattle.game.specs.promise.Lent.{lent};
-ghost use Rattle.storage.specs.promise.Lent.{claimed, given};
+ghost use Rattle.storage.specs.promise.Lent.{claimed};
 ghost use Rattle.inputs.specs.promise.Inputs.{Fault9, input_of, test_rows};
 
 use game::buffers::compare;
@@ -52,7 +52,7 @@ pub fn test_input(
     moves: &[u16],
     work: &[u16],
 ) -> Tested
-    ensures { Gives (test_rows (input_of (lent owners priorities starts targets) (lent owners2 priorities2 starts2 targets2) (claimed old_winners old_moves)) (given winners moves work)) (tested_said result) }
+    ensures { Gives (test_rows (input_of (lent owners priorities starts targets) (lent owners2 priorities2 starts2 targets2) (claimed old_winners old_moves)) (record { answer = claimed winners moves; work = work.now })) (tested_said result) }
 {
     let n = owners.len();
     let first = test_tables(owners, priorities, starts, targets);

@@ -1,4 +1,4 @@
--- The solver does not refuse tables of a well_formed game, and its solution stands at the beginnings of the lists.
+-- The solver does not refuse tables of a well-formed game, and its solution stands at the beginnings of the lists.
 use Prim.Native.Nat.{ℕ, ◌*◌, ◌≤◌}
 use mathlib.Core.Path.{◌≡◌, sym, subst₂, ◌∙◌}
 use mathlib.Core.List.{List, ◌++◌}

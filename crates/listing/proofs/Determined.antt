@@ -21,7 +21,7 @@ use Rattle.lines.specs.promise.Lines.{game_line, refused_line}
 use Rattle.listing.specs.promise.Listing.{Lists, Agree}
 use Rattle.lines.proofs.Alike.{Alike, alike_itself, lines_alike}
 
--- two solutions of a well_formed game
+-- two solutions of a well-formed game
 module _ (t : Tables) (w : WellFormed t) (a b : Answer) (x : IsSolution t a) (y : IsSolution t b) where
   marks : (v : ℕ) → v < vertices t → mark_of a.winners v ≡ mark_of b.winners v
   marks = solutions_same (game_of t) w.sound w.moving (mark_of a.winners) (move_of a.moves) (mark_of b.winners) (move_of b.moves) x y

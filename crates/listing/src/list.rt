@@ -2,7 +2,7 @@
 ghost use Rattle.std.specs.Prelude.{◌≡◌, length};
 ghost use Rattle.game.specs.promise.Tables.{WellFormed};
 ghost use Rattle.game.specs.promise.Lent.{asked, lent};
-ghost use Rattle.storage.specs.promise.Lent.{claim, buffers};
+ghost use Rattle.storage.specs.promise.Lent.{buffers, left};
 ghost use Rattle.listing.specs.promise.Listing.{SetDown};
 ghost use Rattle.listing.specs.parts.Answering.{Solvable, Solution, AnswerListed, Tellable, Told};
 
@@ -14,7 +14,7 @@ use solver::solve;
 use storage::answer::cells;
 use storage::{WINNERS, Winner};
 
-// Solves a well_formed game, with all that is lent of the right length: the solver does not refuse it.
+// Solves a well-formed game, with all that is lent of the right length: the solver does not refuse it.
 fn answer(
     owners: &[u8],
     priorities: &[u8],
@@ -25,7 +25,7 @@ fn answer(
     work: &mut [u16],
 )
     requires { Solvable (asked owners priorities starts targets) (buffers winners moves work) }
-    ensures { Solution (lent owners priorities starts targets) (claim winners.exit moves.exit) }
+    ensures { Solution (lent owners priorities starts targets) (left winners moves work).answer }
 {
     solve(owners, priorities, starts, targets, winners, moves, work);
 }

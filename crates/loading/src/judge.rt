@@ -1,7 +1,8 @@
 // All rows that judge a file, in their order.
 ghost use Rattle.refusal.specs.promise.Row.{Gives};
 ghost use Rattle.refusal.specs.parts.Found.{tested_said};
-ghost use Rattle.game.specs.promise.Lent.{asked, written};
+ghost use Rattle.game.specs.promise.Tables.{tables_of};
+ghost use Rattle.game.specs.promise.Lent.{written};
 ghost use Rattle.format.specs.promise.Faults.{judged_rows};
 ghost use Rattle.decoding.specs.promise.Holding.{Holding};
 ghost use Rattle.loading.specs.parts.Loading.{frame_rows, blank, Loads};
@@ -35,7 +36,7 @@ pub fn judge(
     starts: &mut [u16],
     targets: &mut [u16],
 ) -> Tested
-    requires { Holding blank (asked owners priorities starts targets) }
+    requires { Holding blank (tables_of owners.old priorities.old starts.old targets.old) }
     ensures { Loads (judged_rows file.now) file.now (written owners priorities starts targets) result }
 {
     let framed = frame(file);

@@ -1,6 +1,7 @@
 // The tables of a file whose counts add up: decoded, tested, turned.
 ghost use Rattle.refusal.specs.promise.Row.{Gives};
 ghost use Rattle.refusal.specs.parts.Found.{tested_said};
+ghost use Rattle.game.specs.promise.Tables.{tables_of};
 ghost use Rattle.game.specs.promise.Lent.{asked, written};
 ghost use Rattle.format.specs.promise.Filed.{filed};
 ghost use Rattle.format.specs.promise.Faults.{filed_rows};
@@ -22,7 +23,7 @@ fn decode(
     starts: &mut [u16],
     targets: &mut [u16],
 )
-    requires { Summed file.now × Holding blank (asked owners priorities starts targets) }
+    requires { Summed file.now × Holding blank (tables_of owners.old priorities.old starts.old targets.old) }
     ensures { Holding (filed file.now).tables (written owners priorities starts targets) }
 {
     fields::owners(file, owners);
@@ -55,7 +56,7 @@ pub fn load(
     starts: &mut [u16],
     targets: &mut [u16],
 ) -> Tested
-    requires { Summed file.now × Holding blank (asked owners priorities starts targets) }
+    requires { Summed file.now × Holding blank (tables_of owners.old priorities.old starts.old targets.old) }
     ensures { Loads (filed_rows file.now) file.now (written owners priorities starts targets) result }
 {
     decode(file, owners, priorities, starts, targets);

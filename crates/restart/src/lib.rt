@@ -1,5 +1,6 @@
 // A fresh start: what does not lean on an open vertex is decided for good and stays, and everything else is opened again.
 #![tactic(auto)]
+
 ghost use Rattle.std.specs.Prelude.{length};
 ghost use Rattle.space.specs.parts.Desk.{desk_of};
 ghost use Rattle.restart.specs.parts.Restarting.{OpenSeedable, SeededAll, Firmable, Firmed, Restartable, RestartedIn};

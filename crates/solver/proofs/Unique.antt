@@ -1,4 +1,4 @@
--- The solver's promise has no second outcome but for moves where the winner owns; every well_formed game is solved, and rightly.
+-- The solver's promise has no second outcome but for moves where the winner owns; every well-formed game is solved, and rightly.
 use Prim.Native.Nat.{ℕ, ◌<◌}
 use mathlib.Core.Path.{◌≡◌, refl, sym, ap, ◌∙◌}
 use mathlib.Core.Logic.{◌≢◌}
@@ -42,7 +42,7 @@ said_unique solved.Done (solved.Refused r) e = let z : ◌≡◌ {A = ℕ} 0 1 =
 said_unique (solved.Refused q) solved.Done e = let z : ◌≡◌ {A = ℕ} 0 1 = cc in absurd (omega arith)
 said_unique (solved.Refused q) (solved.Refused r) e = ap solved.Refused (refusal_unique q r e)
 
--- two solutions of a well_formed game, in lists of its length
+-- two solutions of a well-formed game, in lists of its length
 pub solutions_lines :
     (t : Tables) (a b : Answer) → WellFormed t → Stored (vertices t) a.winners → Stored (vertices t) b.winners →
     IsSolution t a → IsSolution t b → SameLines t a b
@@ -85,7 +85,7 @@ module _ (t : Tables) (before : Lent) (bytes : (v : ℕ) → get_or t.priorities
       let w = lent_formed t _ _ _ bytes r.none in
       solution_right (game_of t) w.sound w.moving (mark_of x.answer.winners) (move_of x.answer.moves) r.written.solution
 
-  -- each well_formed game with buffers that fit is solved
+  -- each well-formed game with buffers that fit is solved
   pub well_formed_solved :
       (x : Lent) (a : Solved) → WellFormed t → Fit (lent_sizes (vertices t) (length before.answer.winners) (length before.answer.moves) (length before.work)) →
       Solves t before x (solved_said a) → a ≡ solved.Done

@@ -1,4 +1,4 @@
--- What has passed 1 to 8: well_formed tables, and lists as long as they should be; and the other way round.
+-- What has passed 1 to 8: well-formed tables, and lists as long as they should be; and the other way round.
 use Prim.Native.Nat.{ℕ, ◌<◌}
 use lib.ListN.{get_or}
 use mathlib.Core.List.{List, [], ◌∷◌}

@@ -1,5 +1,6 @@
 // Appending to a text in a lent slice: each function takes the place at which it begins and returns the place after it.
 #![tactic(auto)]
+
 ghost use Rattle.std.specs.Prelude.{[], ◌∷◌, ◌++◌};
 ghost use Rattle.text.specs.parts.Append.{Room, Appended};
 ghost use Rattle.text.specs.promise.Text.{decimal_of, line_of};

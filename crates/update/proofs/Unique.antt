@@ -1,5 +1,5 @@
 -- No second result satisfies the update's promise; moves may differ only where the vertex is decided anew and its owner is its winner.
--- Two well_formed games of as many vertices, a right answer to the first and lists that fit: the update succeeds.
+-- Two well-formed games of as many vertices, a right answer to the first and lists that fit: the update succeeds.
 use Prim.Native.Nat.{ℕ, ◌<◌}
 use mathlib.Core.Path.{◌≡◌, refl, sym, ap, ◌∙◌}
 use mathlib.Core.List.{List, [], ◌∷◌}
@@ -89,7 +89,7 @@ module _ (i : Input) (before : Lent) where
     pub answer_unique : (x y : Lent) (a b : Updated) → Updates i before x (updated_said a) → Updates i before y (updated_said b) → a ≡ b
     answer_unique x y a b r s = said_unique a b (updates_unique x y (updated_said a) (updated_said b) r s).said
 
-  -- two well_formed games of as many vertices, an answer that the checker accepts for the first, and lists that fit: success
+  -- two well-formed games of as many vertices, an answer that the checker accepts for the first, and lists that fit: success
   pub well_formed_updated :
       (x : Lent) (a : Updated) → WellFormed i.first → WellFormed i.second → vertices i.first ≡ vertices i.second → IsRight i.first i.old →
       Fit (update_sizes i before) → Updates i before x (updated_said a) → (count : ℕ) × (a ≡ Done count)

@@ -14,7 +14,7 @@ use Rattle.format.proofs.FileOf.{file_long}
 use Rattle.writer.specs.promise.Faults.{Fault46, write_rows}
 use Rattle.writer.proofs.Lengths.{fillable}
 
--- well_formed tables are filed in an output of that length
+-- well-formed tables are filed in an output of that length
 pub writable : (t : Tables) (output : List ℕ) → WellFormed t → length output ≡ length (file_of (plain t)) → None (write_rows t output)
 writable t output well long = none_append (table_rows t) (row 46 (Fault46 t output) ∷ []) (none_applies t well) ((λ x f. f.wrong long), tt)
 

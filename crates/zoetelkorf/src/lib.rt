@@ -1,5 +1,6 @@
 // The C interface: what a Rust or C program links. Each function hands on to the entry point and gives its number and value.
 #![tactic(auto)]
+ghost use Rattle.game.specs.promise.Tables.{tables_of};
 ghost use Rattle.game.specs.promise.Lent.{lent, written};
 ghost use Rattle.storage.specs.promise.Lent.{claimed, given, left};
 ghost use Rattle.inputs.specs.promise.Inputs.{input_of};
@@ -108,7 +109,7 @@ pub extern "C" fn zoetelkorf_read(
     targets: &mut [u16],
     value: &mut u64,
 ) -> u64
-    ensures { ReadsBy file.now (lent owners priorities starts targets) (written owners priorities starts targets) result value.new }
+    ensures { ReadsBy file.now (tables_of owners.old priorities.old starts.old targets.old) (written owners priorities starts targets) result value.new }
 {
     let taken = read(file, owners, priorities, starts, targets);
     match taken {

@@ -8,7 +8,7 @@ use Rattle.lists.specs.parts.Cells.{Filled}
 use Rattle.reach.specs.parts.Closure.{Queued}
 use Rattle.amend.specs.promise.Amended.{Reaches, CountOf}
 
--- two well_formed games of as many vertices
+-- two well-formed games of as many vertices
 pub record Paired (tables : Tables) (tables2 : Tables) : Type 0 where
   pub first : WellFormed tables
   pub second : WellFormed tables2

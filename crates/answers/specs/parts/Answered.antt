@@ -4,7 +4,7 @@ use Rattle.game.specs.promise.Tables.{Tables, vertices, WellFormed}
 use Rattle.storage.specs.promise.Answer.{Answer}
 use Rattle.storage.specs.parts.Answers.{Stored}
 
--- an answer to a well_formed game: a mark and a move for each vertex
+-- an answer to a well-formed game: a mark and a move for each vertex
 pub record Answered (t : Tables) (a : Answer) : Type 0 where
   pub well_formed : WellFormed t
   pub stored : Stored (vertices t) a.winners

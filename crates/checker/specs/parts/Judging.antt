@@ -1,4 +1,4 @@
--- What judging an answer to a well_formed game asks and gives.
+-- What judging an answer to a well-formed game asks and gives.
 use Rattle.std.specs.Prelude.{ℕ, ◌*◌, ◌≡◌, List, length}
 use Rattle.refusal.specs.promise.Row.{Said, Gives}
 use Rattle.game.specs.promise.Tables.{Tables, vertices, game_of}

@@ -1,6 +1,6 @@
 -- Row 8 on the lengths of what is lent, and how the clauses of a contract speak of lent tables. (docs/RULES.md, Memory)
 use Rattle.std.specs.Prelude.{ℕ, ◌≡◌, List, [], ◌∷◌}
-use Rattle.std.specs.Borrow.{Bor}
+use Rattle.std.specs.Borrow.{Bor, MutBor}
 use denote.Triple.Both.{Both}
 use Rattle.game.specs.promise.Tables.{Tables, tables_of}
 
@@ -23,7 +23,7 @@ pub record Fault8 (l : List Sized) (x : ℕ) : Type 0 where
 abbrev pub sized : (long due : ℕ) → Sized
 sized long due = record { long = long; due = due }
 
--- tables that a `requires` speaks of
+-- tables behind shared references, that a `requires` speaks of; behind mutable ones `tables_of` has them, with `.old`
 abbrev pub asked : (owners priorities starts targets : Bor (List ℕ)) → Tables
 asked owners priorities starts targets = tables_of owners.now priorities.now starts.now targets.now
 
@@ -32,5 +32,5 @@ abbrev pub lent : {A B C D : Type 0} → Both (Bor (List ℕ)) A → Both (Bor (
 lent owners priorities starts targets = asked owners.entry priorities.entry starts.entry targets.entry
 
 -- tables that a call has written: as they are at exit
-abbrev pub written : {A B C D : Type 0} → Both A (Bor (List ℕ)) → Both B (Bor (List ℕ)) → Both C (Bor (List ℕ)) → Both D (Bor (List ℕ)) → Tables
-written owners priorities starts targets = asked owners.exit priorities.exit starts.exit targets.exit
+abbrev pub written : {A B C D : Type 0} → Both A (MutBor (List ℕ)) → Both B (MutBor (List ℕ)) → Both C (MutBor (List ℕ)) → Both D (MutBor (List ℕ)) → Tables
+written owners priorities starts targets = tables_of owners.exit.now priorities.exit.now starts.exit.now targets.exit.now

@@ -38,7 +38,7 @@ pub record Placed (n : ℕ) (starts targets : List ℕ) : Type 0 where
   pub onward : (v : ℕ) → v < n → get_or starts v 0 ≤ get_or starts (v + 1) 0
   pub last : get_or starts n 0 ≡ length targets
 
--- tables of a well_formed game
+-- tables of a well-formed game
 pub record WellFormed (t : Tables) : Type 0 where
   pub level : length t.priorities ≡ vertices t
   pub edges : length t.targets ≤ 16384

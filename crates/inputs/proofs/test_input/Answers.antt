@@ -8,7 +8,7 @@ use Rattle.refusal.proofs.Rows.{so_far, also, later, passed, none_of, none_appen
 use Rattle.game.specs.promise.Tables.{vertices}
 use Rattle.game.specs.promise.Faults.{table_rows}
 use Rattle.game.specs.promise.Lent.{Fault8, sized, asked}
-use Rattle.storage.specs.promise.Lent.{lent_sizes, claim, buffers}
+use Rattle.storage.specs.promise.Lent.{Lent, lent_sizes, claim}
 use Rattle.game.proofs.Sizes.{fitting_of_none}
 use Rattle.inputs.specs.promise.Inputs.{input_of, Fault9, second_rows}
 use Rattle.inputs.proofs.Rows.{games, sizes, none_second, refused_second}
@@ -19,15 +19,15 @@ returns-in-Refused c =
     let f = tested_refused (table_rows ((let a = c.args in
     input_of (asked a.owners a.priorities a.starts a.targets) (asked a.owners2 a.priorities2 a.starts2 a.targets2) (claim a.old_winners a.old_moves))).first) c.in-Refused.is c.test_tables-first.ensures in
     first_left (games ((let a = c.args in
-    input_of (asked a.owners a.priorities a.starts a.targets) (asked a.owners2 a.priorities2 a.starts2 a.targets2) (claim a.old_winners a.old_moves))) ((let a = c.args in buffers a.winners a.moves a.work))) (sizes ((let a = c.args in
-    input_of (asked a.owners a.priorities a.starts a.targets) (asked a.owners2 a.priorities2 a.starts2 a.targets2) (claim a.old_winners a.old_moves))) ((let a = c.args in buffers a.winners a.moves a.work))) _ _ (first_left (table_rows ((let a = c.args in
+    input_of (asked a.owners a.priorities a.starts a.targets) (asked a.owners2 a.priorities2 a.starts2 a.targets2) (claim a.old_winners a.old_moves))) ((let a = c.args in let lent : Lent = record { answer = claim a.winners a.moves; work = a.work.now } in lent))) (sizes ((let a = c.args in
+    input_of (asked a.owners a.priorities a.starts a.targets) (asked a.owners2 a.priorities2 a.starts2 a.targets2) (claim a.old_winners a.old_moves))) ((let a = c.args in let lent : Lent = record { answer = claim a.winners a.moves; work = a.work.now } in lent))) _ _ (first_left (table_rows ((let a = c.args in
     input_of (asked a.owners a.priorities a.starts a.targets) (asked a.owners2 a.priorities2 a.starts2 a.targets2) (claim a.old_winners a.old_moves))).first) (second_rows (table_rows ((let a = c.args in
     input_of (asked a.owners a.priorities a.starts a.targets) (asked a.owners2 a.priorities2 a.starts2 a.targets2) (claim a.old_winners a.old_moves))).second)) _ _ f)
 
 pub returns-in-Refused-amended : goal.returns-in-Refused-amended
 returns-in-Refused-amended c =
     refused_second ((let a = c.args in
-    input_of (asked a.owners a.priorities a.starts a.targets) (asked a.owners2 a.priorities2 a.starts2 a.targets2) (claim a.old_winners a.old_moves))) ((let a = c.args in buffers a.winners a.moves a.work)) ((passed {rows = table_rows ((let a = c.args in
+    input_of (asked a.owners a.priorities a.starts a.targets) (asked a.owners2 a.priorities2 a.starts2 a.targets2) (claim a.old_winners a.old_moves))) ((let a = c.args in let lent : Lent = record { answer = claim a.winners a.moves; work = a.work.now } in lent)) ((passed {rows = table_rows ((let a = c.args in
     input_of (asked a.owners a.priorities a.starts a.targets) (asked a.owners2 a.priorities2 a.starts2 a.targets2) (claim a.old_winners a.old_moves))).first} c.in_default.is (record { gives = c.test_tables-first.ensures }))) c.second.ensures (tested_refused (table_rows ((let a = c.args in
     input_of (asked a.owners a.priorities a.starts a.targets) (asked a.owners2 a.priorities2 a.starts2 a.targets2) (claim a.old_winners a.old_moves))).second) c.in-Refused-amended.is c.test_tables-amended.ensures)
 
@@ -39,13 +39,13 @@ pub returns : goal.returns
 returns c =
     let i = (let a = c.args in
     input_of (asked a.owners a.priorities a.starts a.targets) (asked a.owners2 a.priorities2 a.starts2 a.targets2) (claim a.old_winners a.old_moves)) in
-    let l = (let a = c.args in buffers a.winners a.moves a.work) in
+    let l = (let a = c.args in let lent : Lent = record { answer = claim a.winners a.moves; work = a.work.now } in lent) in
     let n = vertices i.first in
     let nine = also (Fault9 _ _) c.or-nine.ensures so_far c.same_size-sizes.ensures in
     let found = c.compare.ensures.joins _ (c.compare-moved.ensures.joins _ c.lengths-lent.ensures) in
     let eight = subst (λ (k : ℕ). Finds (Fault8 (sized (length i.old.winners) k ∷ sized (length i.old.moves) n ∷ lent_sizes n (length l.answer.winners) (length l.answer.moves) (length l.work))) c.compare.result) c.cells.ensures found in
     (later (games ((let a = c.args in
-    input_of (asked a.owners a.priorities a.starts a.targets) (asked a.owners2 a.priorities2 a.starts2 a.targets2) (claim a.old_winners a.old_moves))) ((let a = c.args in buffers a.winners a.moves a.work))) (none_append (table_rows ((let a = c.args in
+    input_of (asked a.owners a.priorities a.starts a.targets) (asked a.owners2 a.priorities2 a.starts2 a.targets2) (claim a.old_winners a.old_moves))) ((let a = c.args in let lent : Lent = record { answer = claim a.winners a.moves; work = a.work.now } in lent))) (none_append (table_rows ((let a = c.args in
     input_of (asked a.owners a.priorities a.starts a.targets) (asked a.owners2 a.priorities2 a.starts2 a.targets2) (claim a.old_winners a.old_moves))).first) (second_rows (table_rows ((let a = c.args in
     input_of (asked a.owners a.priorities a.starts a.targets) (asked a.owners2 a.priorities2 a.starts2 a.targets2) (claim a.old_winners a.old_moves))).second)) ((passed {rows = table_rows ((let a = c.args in
     input_of (asked a.owners a.priorities a.starts a.targets) (asked a.owners2 a.priorities2 a.starts2 a.targets2) (claim a.old_winners a.old_moves))).first} c.in_default.is (record { gives = c.test_tables-first.ensures }))) (none_second (table_rows ((let a = c.args in

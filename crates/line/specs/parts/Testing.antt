@@ -6,7 +6,7 @@ use Rattle.storage.specs.promise.Answer.{mark_of}
 use Rattle.storage.specs.parts.Answers.{Stored}
 use Rattle.justification.specs.parts.Step.{TestGives}
 
--- the test asks a vertex of a well_formed game, and a mark for every vertex
+-- the test asks a vertex of a well-formed game, and a mark for every vertex
 pub record Testable (v : ℕ) (tables : Tables) (winners : List ℕ) : Type 0 where
   pub well_formed : WellFormed tables
   pub vertex : v < vertices tables

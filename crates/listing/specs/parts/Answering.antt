@@ -16,7 +16,7 @@ use Rattle.text.specs.parts.Append.{Appended}
 abbrev pub front_of : (n m : ℕ) → Tables → Tables
 front_of n m t = tables_of (take n t.owners) (take n t.priorities) (take (n + 1) t.starts) (take m t.targets)
 
--- a well_formed game, with an answer and work space of the right lengths
+-- a well-formed game, with an answer and work space of the right lengths
 pub record Solvable (t : Tables) (l : Lent) : Type 0 where
   pub well_formed : WellFormed t
   pub fit : Fit (lent_sizes (vertices t) (length l.answer.winners) (length l.answer.moves) (length l.work))
@@ -25,7 +25,7 @@ pub record Solvable (t : Tables) (l : Lent) : Type 0 where
 pub record Solution (t : Tables) (a : Answer) : Type 0 where
   pub is : IsSolution t a
 
--- tables at whose beginnings a well_formed game of n vertices and m edges stands
+-- tables at whose beginnings a well-formed game of n vertices and m edges stands
 pub record Tabled (n m : ℕ) (t : Tables) : Type 0 where
   pub owners_long : n ≤ length t.owners
   pub priorities_long : n ≤ length t.priorities
@@ -40,7 +40,7 @@ pub record AnswerListed (t : Tables) (before after : List ℕ) (r : ℕ) : Type 
   pub within : r ≤ length after
   pub done : Appended before after 0 (game_text (vertices t) (length t.targets) t answer) r
 
--- what was read, as the tables must hold it: at their beginnings, a well_formed game
+-- what was read, as the tables must hold it: at their beginnings, a well-formed game
 abbrev pub Tellable : Read → Tables → Type 0
 Tellable (Game h) t = Tabled h.vertices h.edges t
 Tellable (Refused f) t = Unit {0}

@@ -42,7 +42,7 @@ abbrev pub AllFor : (winner bound : ℕ) (stretch priorities levels winners work
 AllFor winner bound stretch priorities levels winners work (Level l) = Grounded winner bound stretch priorities levels winners work l
 AllFor winner bound stretch priorities levels winners work None = Unit {0}
 
--- an edge of a well_formed game whose vertices are seen
+-- an edge of a well-formed game whose vertices are seen
 pub record Offerable (x u : ℕ) (tables : Tables) (d : Desk) (winners work : List ℕ) : Type 0 where
   pub well_formed : WellFormed tables
   pub known : Known tables.priorities d winners work

@@ -10,7 +10,7 @@ use Rattle.lists.specs.parts.Cells.{Filled}
 use Rattle.levels.specs.parts.Levels.{settled_of}
 
 module _ (tables : Tables) (winners moves work : List ℕ) where
-  -- a safe state of a well_formed game in lists of the right lengths, nothing reached by a closure
+  -- a safe state of a well-formed game in lists of the right lengths, nothing reached by a closure
   pub record State : Type 0 where
     pub well_formed : WellFormed tables
     pub stored : Stored (vertices tables) winners

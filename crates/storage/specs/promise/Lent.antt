@@ -1,6 +1,6 @@
 -- What is lent besides the tables, row 8 on its lengths, and how the clauses of a contract speak of it. (docs/RULES.md, Memory)
 use Rattle.std.specs.Prelude.{ℕ, ◌*◌, ◌<◌, ◌≤◌, ◌≡◌, List, [], ◌∷◌, ◌++◌, length, get_or}
-use Rattle.std.specs.Borrow.{Bor}
+use Rattle.std.specs.Borrow.{Bor, MutBor}
 use denote.Triple.Both.{Both}
 use Rattle.refusal.specs.promise.Row.{Row, row}
 use Rattle.game.specs.promise.Tables.{Tables, vertices}
@@ -44,11 +44,11 @@ abbrev pub claimed : {A B : Type 0} → Both (Bor (List ℕ)) A → Both (Bor (L
 claimed winners moves = claim winners.entry moves.entry
 
 -- what is lent to a solver: as a `requires` speaks of it, at entry, and at exit
-abbrev pub buffers : (winners moves work : Bor (List ℕ)) → Lent
-buffers winners moves work = record { answer = claim winners moves; work = work.now }
+abbrev pub buffers : (winners moves work : MutBor (List ℕ)) → Lent
+buffers winners moves work = record { answer = record { winners = winners.now; moves = moves.now }; work = work.now }
 
-abbrev pub given : {A B C : Type 0} → Both (Bor (List ℕ)) A → Both (Bor (List ℕ)) B → Both (Bor (List ℕ)) C → Lent
+abbrev pub given : {A B C : Type 0} → Both (MutBor (List ℕ)) A → Both (MutBor (List ℕ)) B → Both (MutBor (List ℕ)) C → Lent
 given winners moves work = buffers winners.entry moves.entry work.entry
 
-abbrev pub left : {A B C : Type 0} → Both A (Bor (List ℕ)) → Both B (Bor (List ℕ)) → Both C (Bor (List ℕ)) → Lent
+abbrev pub left : {A B C : Type 0} → Both A (MutBor (List ℕ)) → Both B (MutBor (List ℕ)) → Both C (MutBor (List ℕ)) → Lent
 left winners moves work = buffers winners.exit moves.exit work.exit

@@ -36,7 +36,7 @@ WritesBy t before after = Told (Writes t before after)
 --   refusal   Row         rows, the first that applies, what is said
 --   refusal   Number      the number of each kind
 --   game      Game        games, edges, what is asked of a game
---   game      Tables      how a game is stored, well_formed tables
+--   game      Tables      how a game is stored, well-formed tables
 --   game      Faults      1 to 7
 --   game      Lent        8, how contracts speak of tables
 --   storage   Answer      how an answer is stored
