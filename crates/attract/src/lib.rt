@@ -1,5 +1,6 @@
 // Attraction from the vertices of a pile until it is empty, under a budget.
 #![tactic(auto)]
+
 ghost use Rattle.std.specs.Prelude.{◌≤◌};
 ghost use Rattle.game.specs.promise.Lent.{asked, lent};
 ghost use Rattle.space.specs.parts.Desk.{desk_of};

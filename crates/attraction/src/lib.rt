@@ -1,5 +1,6 @@
 // The order by attraction, from the highest priority down; where it comes to a stand an open vertex of least priority is tested.
 #![tactic(auto)]
+
 ghost use Rattle.game.specs.promise.Lent.{asked, lent};
 ghost use Rattle.space.specs.parts.Desk.{desk_of};
 ghost use Rattle.draw.specs.parts.Drawing.{Drainable};

@@ -1,5 +1,6 @@
 // From a vertex, open or settled, to the open vertices from which its winner can force a step there: they are drawn to him.
 #![tactic(auto)]
+
 ghost use Rattle.game.specs.promise.Lent.{asked, lent};
 ghost use Rattle.space.specs.parts.Desk.{desk_of};
 ghost use Rattle.draw.specs.parts.Drawing.{Drawable, Drawn, DrawVisitable};

@@ -1,5 +1,6 @@
 // The reader of the house game file.
 #![tactic(auto)]
+
 mod copy;
 pub mod reader;
 

@@ -1,5 +1,6 @@
 // Either order, under a budget.
 #![tactic(auto)]
+
 ghost use Rattle.game.specs.promise.Lent.{asked, lent};
 ghost use Rattle.space.specs.parts.Desk.{desk_of};
 ghost use Rattle.draw.specs.parts.Drawing.{Drainable};

@@ -1,5 +1,6 @@
 // A probe: an open vertex of least priority is tested, and attraction goes on from it.
 #![tactic(auto)]
+
 ghost use Rattle.std.specs.Prelude.{◌<◌, ◌≤◌};
 ghost use Rattle.game.specs.promise.Lent.{asked, lent};
 ghost use Rattle.space.specs.parts.Desk.{desk_of};

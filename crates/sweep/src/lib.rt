@@ -1,5 +1,6 @@
 // Attracting from what has been opened since the last sweep, from the highest priority down.
 #![tactic(auto)]
+
 ghost use Rattle.std.specs.Prelude.{◌≤◌};
 ghost use Rattle.game.specs.promise.Lent.{asked, lent};
 ghost use Rattle.space.specs.parts.Desk.{Laid, desk_of};

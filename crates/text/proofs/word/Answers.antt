@@ -1,5 +1,4 @@
 -- `text::word` meets its contract. The word byte by byte (Appending).
-use Prim.Native.Nat.{◌-◌}
 use mathlib.Core.Path.{refl}
 use native.Mathlib.Omega.{arith}
 use Rattle.text.proofs.Appending.{copied_none, copied_more, copied_all}
