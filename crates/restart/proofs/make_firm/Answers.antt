@@ -1,10 +1,9 @@
 -- `restart::make_firm` meets its contract. The invariant, `Firming`: the unreached vertices below v have a level above all priorities.
 use borrow.Author.Rules.{rules}
-use Prim.Native.Nat.{◌-◌}
 use mathlib.Core.Path.{refl}
-use mathlib.Core.Logic.{⊎_elim}
 use Rattle.restart.proofs.Firms.{firming_none, firming_cell, firming_room, firming_skip, firming_more, firming_all}
 use Rattle.restart.proofs.make_firm.Goals as goal
+use Rattle.restart.proofs.make_firm.Goals.{then-reached-eq0, else-reached-eq0}
 
 pub loop-v-init : goal.loop-v-init
 loop-v-init c = (refl, firming_none c.requires)
@@ -20,10 +19,10 @@ loop-v-preserved c =
     let p = c.requires in
     let i = c.loop-v.invariant in
     let is = c.reached.ensures in
-    ⊎_elim
-    (λ w. rw w.5 (search rules, firming_more p i.1 c.loop-v-test.true w.2.ensures))
-    (λ w. rw w.1 (i.0, firming_skip i.1 is w.0.left))
-    c.if-reached-eq0.branch
+    elim c.if-reached-eq0.branch [
+      | then-reached-eq0 w ↦ rw w.desk-is (search rules, firming_more p i.1 c.loop-v-test.true w.set_level.ensures)
+      | else-reached-eq0 w ↦ rw w.desk-is (i.0, firming_skip i.1 is w.if-reached-eq0.false)
+    ]
 
 pub shape_of-desk : goal.shape_of-desk
 shape_of-desk c = c.loop-v.invariant.0
