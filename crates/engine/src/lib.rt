@@ -1,5 +1,6 @@
 // The engine: the open vertices line up, the levels are the priorities, and then the rounds run.
 #![tactic(auto)]
+
 ghost use Rattle.game.specs.promise.Lent.{asked, lent};
 ghost use Rattle.space.specs.parts.Desk.{Laid, desk_of};
 ghost use Rattle.engine.specs.parts.Settling.{NoLines, Settleable};

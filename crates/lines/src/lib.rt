@@ -1,5 +1,6 @@
 // The lines of a listing, each appended to the text.
 #![tactic(auto)]
+
 ghost use Rattle.refusal.specs.promise.Number.{number_of};
 ghost use Rattle.text.specs.parts.Append.{Room, Appended};
 ghost use Rattle.lines.specs.promise.Lines.{move_field, game_line, refused_line, vertex_line, vertex_lines, game_lines};

@@ -1,6 +1,7 @@
 // The policy: the two orders in turn, each with a budget that grows, so that a game must be slow for both. Between two rounds everything
 // that is not decided for good is opened again. Which order begins, and the budgets, decide only how soon the answer is there.
 #![tactic(auto)]
+
 ghost use Rattle.std.specs.Prelude.{◌+◌, ◌<◌, ◌≤◌};
 ghost use Rattle.game.specs.promise.Lent.{asked, lent};
 ghost use Rattle.space.specs.parts.Desk.{Laid, desk_of};
@@ -8,8 +9,8 @@ ghost use Rattle.step.specs.parts.Stepping.{Engine};
 ghost use Rattle.draw.specs.parts.Drawing.{Drainable};
 ghost use Rattle.rounds.specs.parts.Settled.{SettledTo};
 
-use one_round::round;
 use game::NONE;
+use one_round::round;
 use orders::Ended;
 use orders::lowest::lowest;
 use restart::restart;

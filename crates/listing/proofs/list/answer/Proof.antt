@@ -24,8 +24,7 @@ same_length_3 c = search rules
 returns : tie.Need-returns
 returns c =
     let k = c.before.before.before.before.before.before in
-    let l = k.solve.new.1.1.1.1 in
-    solution _ _ (start k).requires (record { answer = record { winners = l.0; moves = l.1.0 }; work = l.1.1.0 }) k.solve.result k.solve.ensures
+    solution _ _ (start k).requires (record { answer = record { winners = k.solve.new.1.1.1.1.0; moves = k.solve.new.1.1.1.1.1.0 }; work = k.solve.new.1.1.1.1.1.1.0 }) k.solve.result k.solve.ensures
 
 pub answer_spec : {M : Type 1} → statement M
 answer_spec = tie.close (tie.spec solve_requires same_length same_length_2 same_length_3 returns)

@@ -24,7 +24,7 @@ fit : Fit (table_sizes zeros)
 fit = (refl, (refl, (refl, (refl, tt))))
 
 abbrev after : tie.After-read → Tables
-after c = let l = c.read.new.1 in tables_of l.0 l.1.0 l.1.1.0 l.1.1.1.0
+after c = tables_of c.read.new.1.0 c.read.new.1.1.0 c.read.new.1.1.1.0 c.read.new.1.1.1.1.0
 
 bytes : (c : tie.After-read) (i : ℕ) → get_or (start c).args.file.now i 0 < 256
 bytes c i = omega (arith, c.before.before.before.before.before.before.shared-slice-known.given i)

@@ -34,7 +34,7 @@ marks_few c = cells_few _ (start c).requires.0 blank roomy _ c.cells.ensures
 
 -- what it leaves there: the answer, and how long its lists are
 abbrev left : tie.After-answer → Answer
-left c = let l = c.answer.new.1.1.1.1 in record { winners = l.0; moves = l.1.0 }
+left c = record { winners = c.answer.new.1.1.1.1.0; moves = c.answer.new.1.1.1.1.1.0 }
 
 cells_requires : tie.Need-cells-requires
 cells_requires c κs = search rules
