@@ -1,5 +1,4 @@
 -- `lines::vertex_lines` meets its contract. Line by line (Lined).
-use Prim.Native.Nat.{◌-◌}
 use native.Mathlib.Omega.{arith}
 use Rattle.lines.proofs.Lined.{lined_none, lined_room, lined_more, lined_all}
 use Rattle.lines.proofs.vertex_lines.Goals as goal
