@@ -1,4 +1,4 @@
-/* Zoetelkorf: parity games, proved. Link with libzoetelkorf.a (rt staticlib zoetelkorf).
+/* Zoetelkorf: parity games, proved. Link with libzoetelkorf.a (rt lib, in crates/zoetelkorf).
  *
  * Every list is a pointer and its number of elements. A list of length 0 is passed with any pointer that is aligned for its
  * elements and not null. Lent lists do not overlap one another, and *value overlaps none of them.

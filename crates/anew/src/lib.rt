@@ -1,5 +1,6 @@
 // The reached vertices decided anew, the others kept: the engine's start is prepared from the old answer, and the engine run.
 #![tactic(auto)]
+
 ghost use Rattle.game.specs.promise.Lent.{asked, lent};
 ghost use Rattle.anew.specs.parts.Deciding.{Decidable, DecidedAnew};
 

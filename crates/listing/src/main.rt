@@ -1,5 +1,6 @@
 // Lists the game file on standard input: its game with winners and moves, or its refusal.
 #![tactic(auto)]
+
 mod list;
 
 ghost use Rattle.std.specs.Prelude.{◌≤◌, length};

@@ -1,5 +1,6 @@
 // The solver: winners and moves of a game, by fixpoint iteration with justifications, one vertex at a time.
 #![tactic(auto)]
+
 ghost use Rattle.game.specs.promise.Lent.{asked, lent};
 ghost use Rattle.storage.specs.promise.Lent.{buffers, given, left};
 ghost use Rattle.solver.specs.promise.Solving.{Solves, Written, solved_said};

@@ -1,6 +1,5 @@
 -- `engine::no_lines` meets its contract. The invariant, `Emptying`: the lines below k are empty.
 use borrow.Author.Rules.{rules}
-use Prim.Native.Nat.{◌-◌}
 use mathlib.Core.Path.{refl}
 use Rattle.engine.proofs.LinedUp.{emptying_none, emptying_more, emptying_all}
 use Rattle.engine.proofs.no_lines.Goals as goal

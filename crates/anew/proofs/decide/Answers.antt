@@ -1,0 +1,9 @@
+-- `anew::decide` meets its contract: preparing, settling and clearing in turn (Anew).
+use Rattle.anew.proofs.Anew.{settling_asks, decided_anew}
+use Rattle.anew.proofs.decide.Goals as goal
+
+pub settle-requires : goal.settle-requires
+settle-requires c = settling_asks c.requires c.prepare.ensures
+
+pub returns : goal.returns
+returns c = decided_anew c.requires c.prepare.ensures c.prepare.auto.1.1.1.1.1.0 c.settle.ensures c.fill.ensures.long c.fill.ensures.filled
