@@ -1,5 +1,6 @@
 // After acceptance: what the amendment reaches is decided anew, the rest is kept.
 #![tactic(auto)]
+
 ghost use Rattle.game.specs.promise.Lent.{asked, lent};
 ghost use Rattle.storage.specs.promise.Lent.{claim, claimed, buffers, given, left};
 ghost use Rattle.inputs.specs.promise.Inputs.{input_of};

@@ -6,4 +6,4 @@ pub settle-requires : goal.settle-requires
 settle-requires c = settling_asks c.requires c.prepare.ensures
 
 pub returns : goal.returns
-returns c = decided_anew c.requires c.prepare.ensures c.prepare.auto.1.1.1.1.1.0 c.settle.ensures c.fill.ensures.long c.fill.ensures.filled
+returns c = decided_anew c.requires c.prepare.ensures c.prepare.auto.winners c.settle.ensures c.fill.ensures.long c.fill.ensures.filled

@@ -17,8 +17,8 @@ fit = (refl, (refl, (refl, (refl, tt))))
 
 pub told-requires : goal.told-requires
 told-requires c =
-    (tellable _ zeros ((tables_of c.read-taken.new.owners c.read-taken.new.priorities c.read-taken.new.starts c.read-taken.new.targets)) ((omega (arith, c.before.before.before.before.before.before.shared-slice-known.given i)) c) c.read-taken.result c.read-taken.ensures, c.requires)
+    (tellable _ zeros (tables_of c.read-taken.new.owners c.read-taken.new.priorities c.read-taken.new.starts c.read-taken.new.targets) (λ i. omega (arith, c.type_inv.file i)) c.read-taken.result c.read-taken.ensures, c.requires)
 
 pub returns : goal.returns
 returns c =
-    told_set_down _ zeros ((tables_of c.read-taken.new.owners c.read-taken.new.priorities c.read-taken.new.starts c.read-taken.new.targets)) ((omega (arith, c.before.before.before.before.before.before.shared-slice-known.given i)) c) c.read-taken.result c.read-taken.ensures fit c.requires c.told.ensures
+    told_set_down _ zeros (tables_of c.read-taken.new.owners c.read-taken.new.priorities c.read-taken.new.starts c.read-taken.new.targets) (λ i. omega (arith, c.type_inv.file i)) c.read-taken.result c.read-taken.ensures fit c.requires c.told.ensures

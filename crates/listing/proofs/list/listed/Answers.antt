@@ -1,5 +1,4 @@
 -- `listing::list::listed` meets its contract. Solved in the arrays' beginnings (Answers), the game's lines fit and are its listing (Whole).
-use Prim.Native.Nat.{◌≤◌}
 use mathlib.Core.Path.{refl, sym}
 use native.Mathlib.Omega.{arith}
 use lib.ListN.{length, replicate}
@@ -18,10 +17,10 @@ roomy : Roomy blank
 roomy = record { winners = refl; moves = refl; work = refl }
 
 pub slice_bounds-winners-end : goal.slice_bounds-winners-end
-slice_bounds-winners-end c = (let marks_few_here : c.cells-marks.result ≤ cells_most = cells_few _ c.requires.0 blank roomy _ c.cells-marks.ensures in marks_few_here)
+slice_bounds-winners-end c = cells_few _ c.requires.0 blank roomy _ c.cells-marks.ensures
 
 pub slice_bounds-answer-end : goal.slice_bounds-answer-end
-slice_bounds-answer-end c = sym (length-take-le _ _ ((let marks_few_here : c.cells-marks.result ≤ cells_most = cells_few _ c.requires.0 blank roomy _ c.cells-marks.ensures in marks_few_here)))
+slice_bounds-answer-end c = sym (length-take-le _ _ (cells_few _ c.requires.0 blank roomy _ c.cells-marks.ensures))
 
 pub slice_bounds-answer-end-2 : goal.slice_bounds-answer-end-2
 slice_bounds-answer-end-2 c = sym (length-take-le _ _ c.requires.0.sound.few)
@@ -34,20 +33,20 @@ answer-requires c = (solvable _ c.requires.0 blank roomy _ c.cells-marks.ensures
 
 pub slice_bounds-game_lines-end : goal.slice_bounds-game_lines-end
 slice_bounds-game_lines-end c =
-    sym (length_front blank.answer.winners ((record { winners = c.answer.new.winners; moves = c.answer.new.moves })).winners c.cells-marks.result c.answer.auto.1.1.1.1.0)
+    sym (length_front blank.answer.winners c.answer.new.winners c.cells-marks.result c.answer.auto.winners)
 
 pub slice_bounds-game_lines-end-2 : goal.slice_bounds-game_lines-end-2
 slice_bounds-game_lines-end-2 c =
-    sym (length_front blank.answer.moves ((record { winners = c.answer.new.winners; moves = c.answer.new.moves })).moves (length c.args.owners.now) c.answer.auto.1.1.1.1.1.0)
+    sym (length_front blank.answer.moves c.answer.new.moves (length c.args.owners.now) c.answer.auto.moves)
 
 pub game_lines-requires : goal.game_lines-requires
 game_lines-requires c =
     let p = c.requires in
-    let a = answered _ p.0 blank roomy _ c.cells-marks.ensures ((record { winners = c.answer.new.winners; moves = c.answer.new.moves })) c.answer.auto.1.1.1.1.0 c.answer.auto.1.1.1.1.1.0 c.answer.ensures in
+    let a = answered _ p.0 blank roomy _ c.cells-marks.ensures (record { winners = c.answer.new.winners; moves = c.answer.new.moves }) c.answer.auto.winners c.answer.auto.moves c.answer.ensures in
     (listable _ p.0 _ a, whole_room _ p.0 _ a p.1)
 
 pub returns : goal.returns
 returns c =
     let p = c.requires in
-    let a = answered _ p.0 blank roomy _ c.cells-marks.ensures ((record { winners = c.answer.new.winners; moves = c.answer.new.moves })) c.answer.auto.1.1.1.1.0 c.answer.auto.1.1.1.1.1.0 c.answer.ensures in
+    let a = answered _ p.0 blank roomy _ c.cells-marks.ensures (record { winners = c.answer.new.winners; moves = c.answer.new.moves }) c.answer.auto.winners c.answer.auto.moves c.answer.ensures in
     answer_listed _ p.0 _ a p.1 c.game_lines.ensures

@@ -2,8 +2,6 @@
 use mathlib.Core.Path.{sym}
 use native.Mathlib.Omega.{arith}
 use lib.Seq.{length-take-le}
-use Rattle.game.specs.promise.Lent.{asked}
-use Rattle.listing.specs.parts.Answering.{Tabled}
 use Rattle.listing.proofs.Filing.{refused_room, told_game, told_refused, game_tabled}
 use Rattle.listing.proofs.list.told.Goals as goal
 
@@ -11,22 +9,22 @@ pub refused_line-requires : goal.refused_line-requires
 refused_line-requires c = refused_room _ _ _ c.requires.1
 
 pub overflow_add-past : goal.overflow_add-past
-overflow_add-past c = omega (arith, ((let tabled_here : let s = c.args in let h = c.in-Game.h in Tabled h.vertices h.edges (asked s.owners s.priorities s.starts s.targets) = game_tabled _ _ _ c.in-Game.is c.requires.0 in tabled_here)).starts_long)
+overflow_add-past c = omega (arith, (game_tabled _ _ _ c.in-Game.is c.requires.0).starts_long)
 
 pub slice_bounds-listed-end : goal.slice_bounds-listed-end
-slice_bounds-listed-end c = sym (length-take-le _ _ ((let tabled_here : let s = c.args in let h = c.in-Game.h in Tabled h.vertices h.edges (asked s.owners s.priorities s.starts s.targets) = game_tabled _ _ _ c.in-Game.is c.requires.0 in tabled_here)).owners_long)
+slice_bounds-listed-end c = sym (length-take-le _ _ (game_tabled _ _ _ c.in-Game.is c.requires.0).owners_long)
 
 pub slice_bounds-listed-end-in-Game : goal.slice_bounds-listed-end-in-Game
-slice_bounds-listed-end-in-Game c = sym (length-take-le _ _ ((let tabled_here : let s = c.args in let h = c.in-Game.h in Tabled h.vertices h.edges (asked s.owners s.priorities s.starts s.targets) = game_tabled _ _ _ c.in-Game.is c.requires.0 in tabled_here)).priorities_long)
+slice_bounds-listed-end-in-Game c = sym (length-take-le _ _ (game_tabled _ _ _ c.in-Game.is c.requires.0).priorities_long)
 
 pub slice_bounds-listed-end-in-Game-2 : goal.slice_bounds-listed-end-in-Game-2
-slice_bounds-listed-end-in-Game-2 c = sym (length-take-le _ _ ((let tabled_here : let s = c.args in let h = c.in-Game.h in Tabled h.vertices h.edges (asked s.owners s.priorities s.starts s.targets) = game_tabled _ _ _ c.in-Game.is c.requires.0 in tabled_here)).starts_long)
+slice_bounds-listed-end-in-Game-2 c = sym (length-take-le _ _ (game_tabled _ _ _ c.in-Game.is c.requires.0).starts_long)
 
 pub slice_bounds-listed-end-in-Game-3 : goal.slice_bounds-listed-end-in-Game-3
-slice_bounds-listed-end-in-Game-3 c = sym (length-take-le _ _ ((let tabled_here : let s = c.args in let h = c.in-Game.h in Tabled h.vertices h.edges (asked s.owners s.priorities s.starts s.targets) = game_tabled _ _ _ c.in-Game.is c.requires.0 in tabled_here)).targets_long)
+slice_bounds-listed-end-in-Game-3 c = sym (length-take-le _ _ (game_tabled _ _ _ c.in-Game.is c.requires.0).targets_long)
 
 pub listed-requires : goal.listed-requires
-listed-requires c = ((((let tabled_here : let s = c.args in let h = c.in-Game.h in Tabled h.vertices h.edges (asked s.owners s.priorities s.starts s.targets) = game_tabled _ _ _ c.in-Game.is c.requires.0 in tabled_here)).well-formed-2, c.requires.1))
+listed-requires c = ((game_tabled _ _ _ c.in-Game.is c.requires.0).well_formed, c.requires.1)
 
 pub returns-in-Refused : goal.returns-in-Refused
 returns-in-Refused c =
