@@ -1,5 +1,6 @@
 // The update: lines of a checked answer that no amendment reaches are kept, all others decided anew.
 #![tactic(auto)]
+
 ghost use Rattle.std.specs.Prelude.{◌≡◌};
 ghost use Rattle.refusal.specs.promise.Row.{None};
 ghost use Rattle.refusal.specs.declared.Refusal.{Refusal};

@@ -1,5 +1,5 @@
 -- What the update promises: what it says, and what winners, moves and work space hold afterwards. (docs/RULES.md, Entry points)
-use Rattle.std.specs.Prelude.{ℕ, ◌+◌, ◌<◌, ◌≡◌, List, [], ◌∷◌, ◌++◌}
+use Rattle.std.specs.Prelude.{ℕ, ◌<◌, ◌≡◌, List, [], ◌∷◌, ◌++◌}
 use Rattle.refusal.specs.promise.Row.{Row, Said, success, refused, None, First}
 use Rattle.refusal.specs.promise.Number.{said_of}
 use Rattle.game.specs.promise.Tables.{vertices}
