@@ -1,5 +1,6 @@
 // The C interface: what a Rust or C program links. Each function hands on to the entry point and gives its number and value.
 #![tactic(auto)]
+
 ghost use Rattle.game.specs.promise.Tables.{tables_of};
 ghost use Rattle.game.specs.promise.Lent.{lent, written};
 ghost use Rattle.storage.specs.promise.Lent.{claimed, given, left};

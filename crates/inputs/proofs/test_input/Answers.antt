@@ -16,38 +16,33 @@ use Rattle.inputs.proofs.test_input.Goals as goal
 
 pub returns-in-Refused : goal.returns-in-Refused
 returns-in-Refused c =
-    let f = tested_refused (table_rows ((let a = c.args in
-    input_of (asked a.owners a.priorities a.starts a.targets) (asked a.owners2 a.priorities2 a.starts2 a.targets2) (claim a.old_winners a.old_moves))).first) c.in-Refused.is c.test_tables-first.ensures in
-    first_left (games ((let a = c.args in
-    input_of (asked a.owners a.priorities a.starts a.targets) (asked a.owners2 a.priorities2 a.starts2 a.targets2) (claim a.old_winners a.old_moves))) ((let a = c.args in let lent : Lent = record { answer = claim a.winners a.moves; work = a.work.now } in lent))) (sizes ((let a = c.args in
-    input_of (asked a.owners a.priorities a.starts a.targets) (asked a.owners2 a.priorities2 a.starts2 a.targets2) (claim a.old_winners a.old_moves))) ((let a = c.args in let lent : Lent = record { answer = claim a.winners a.moves; work = a.work.now } in lent))) _ _ (first_left (table_rows ((let a = c.args in
-    input_of (asked a.owners a.priorities a.starts a.targets) (asked a.owners2 a.priorities2 a.starts2 a.targets2) (claim a.old_winners a.old_moves))).first) (second_rows (table_rows ((let a = c.args in
-    input_of (asked a.owners a.priorities a.starts a.targets) (asked a.owners2 a.priorities2 a.starts2 a.targets2) (claim a.old_winners a.old_moves))).second)) _ _ f)
+    let a = c.args in
+    let i = input_of (asked a.owners a.priorities a.starts a.targets) (asked a.owners2 a.priorities2 a.starts2 a.targets2) (claim a.old_winners a.old_moves) in
+    let l : Lent = record { answer = claim a.winners a.moves; work = a.work.now } in
+    let f = tested_refused (table_rows i.first) c.in-Refused.is c.test_tables-first.ensures in
+    first_left (games i l) (sizes i l) _ _ (first_left (table_rows i.first) (second_rows (table_rows i.second)) _ _ f)
 
 pub returns-in-Refused-amended : goal.returns-in-Refused-amended
 returns-in-Refused-amended c =
-    refused_second ((let a = c.args in
-    input_of (asked a.owners a.priorities a.starts a.targets) (asked a.owners2 a.priorities2 a.starts2 a.targets2) (claim a.old_winners a.old_moves))) ((let a = c.args in let lent : Lent = record { answer = claim a.winners a.moves; work = a.work.now } in lent)) ((passed {rows = table_rows ((let a = c.args in
-    input_of (asked a.owners a.priorities a.starts a.targets) (asked a.owners2 a.priorities2 a.starts2 a.targets2) (claim a.old_winners a.old_moves))).first} c.in_default.is (record { gives = c.test_tables-first.ensures }))) c.second.ensures (tested_refused (table_rows ((let a = c.args in
-    input_of (asked a.owners a.priorities a.starts a.targets) (asked a.owners2 a.priorities2 a.starts2 a.targets2) (claim a.old_winners a.old_moves))).second) c.in-Refused-amended.is c.test_tables-amended.ensures)
+    let a = c.args in
+    let i = input_of (asked a.owners a.priorities a.starts a.targets) (asked a.owners2 a.priorities2 a.starts2 a.targets2) (claim a.old_winners a.old_moves) in
+    let l : Lent = record { answer = claim a.winners a.moves; work = a.work.now } in
+    refused_second i l (passed {rows = table_rows i.first} c.in_default.is (record { gives = c.test_tables-first.ensures })) c.second.ensures (tested_refused (table_rows i.second) c.in-Refused-amended.is c.test_tables-amended.ensures)
 
 pub lengths-lent-requires : goal.lengths-lent-requires
-lengths-lent-requires c = (fitting_of_none _ (none_of 1 (table_rows _) ((passed {rows = table_rows ((let a = c.args in
-    input_of (asked a.owners a.priorities a.starts a.targets) (asked a.owners2 a.priorities2 a.starts2 a.targets2) (claim a.old_winners a.old_moves))).first} c.in_default.is (record { gives = c.test_tables-first.ensures }))))).few
+lengths-lent-requires c =
+    let a = c.args in
+    let i = input_of (asked a.owners a.priorities a.starts a.targets) (asked a.owners2 a.priorities2 a.starts2 a.targets2) (claim a.old_winners a.old_moves) in
+    let l : Lent = record { answer = claim a.winners a.moves; work = a.work.now } in
+    (fitting_of_none _ (none_of 1 (table_rows _) (passed {rows = table_rows i.first} c.in_default.is (record { gives = c.test_tables-first.ensures })))).few
 
 pub returns : goal.returns
 returns c =
-    let i = (let a = c.args in
-    input_of (asked a.owners a.priorities a.starts a.targets) (asked a.owners2 a.priorities2 a.starts2 a.targets2) (claim a.old_winners a.old_moves)) in
-    let l = (let a = c.args in let lent : Lent = record { answer = claim a.winners a.moves; work = a.work.now } in lent) in
+    let a = c.args in
+    let i = input_of (asked a.owners a.priorities a.starts a.targets) (asked a.owners2 a.priorities2 a.starts2 a.targets2) (claim a.old_winners a.old_moves) in
+    let l : Lent = record { answer = claim a.winners a.moves; work = a.work.now } in
     let n = vertices i.first in
     let nine = also (Fault9 _ _) c.or-nine.ensures so_far c.same_size-sizes.ensures in
     let found = c.compare.ensures.joins _ (c.compare-moved.ensures.joins _ c.lengths-lent.ensures) in
     let eight = subst (λ (k : ℕ). Finds (Fault8 (sized (length i.old.winners) k ∷ sized (length i.old.moves) n ∷ lent_sizes n (length l.answer.winners) (length l.answer.moves) (length l.work))) c.compare.result) c.cells.ensures found in
-    (later (games ((let a = c.args in
-    input_of (asked a.owners a.priorities a.starts a.targets) (asked a.owners2 a.priorities2 a.starts2 a.targets2) (claim a.old_winners a.old_moves))) ((let a = c.args in let lent : Lent = record { answer = claim a.winners a.moves; work = a.work.now } in lent))) (none_append (table_rows ((let a = c.args in
-    input_of (asked a.owners a.priorities a.starts a.targets) (asked a.owners2 a.priorities2 a.starts2 a.targets2) (claim a.old_winners a.old_moves))).first) (second_rows (table_rows ((let a = c.args in
-    input_of (asked a.owners a.priorities a.starts a.targets) (asked a.owners2 a.priorities2 a.starts2 a.targets2) (claim a.old_winners a.old_moves))).second)) ((passed {rows = table_rows ((let a = c.args in
-    input_of (asked a.owners a.priorities a.starts a.targets) (asked a.owners2 a.priorities2 a.starts2 a.targets2) (claim a.old_winners a.old_moves))).first} c.in_default.is (record { gives = c.test_tables-first.ensures }))) (none_second (table_rows ((let a = c.args in
-    input_of (asked a.owners a.priorities a.starts a.targets) (asked a.owners2 a.priorities2 a.starts2 a.targets2) (claim a.old_winners a.old_moves))).second) ((passed {rows = table_rows ((let a = c.args in
-    input_of (asked a.owners a.priorities a.starts a.targets) (asked a.owners2 a.priorities2 a.starts2 a.targets2) (claim a.old_winners a.old_moves))).second} c.in_default-amended.is (record { gives = c.test_tables-amended.ensures }))))) (also (Fault8 _) c.or.ensures nine eight)).gives
+    (later (games i l) (none_append (table_rows i.first) (second_rows (table_rows i.second)) (passed {rows = table_rows i.first} c.in_default.is (record { gives = c.test_tables-first.ensures })) (none_second (table_rows i.second) (passed {rows = table_rows i.second} c.in_default-amended.is (record { gives = c.test_tables-amended.ensures })))) (also (Fault8 _) c.or.ensures nine eight)).gives
