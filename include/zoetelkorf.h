@@ -5,8 +5,8 @@
  *
  * The result is 0 on success, else the number of the refusal; *value receives the refusal's place, or on success what is said below.
  * A refusal leaves every lent list unchanged, except that 11 to 14 leave the work space all zero; after success it is all zero.
- * Stack of a call that succeeds, in bytes, as bench/stack measures it: zoetelkorf_check 37,416, zoetelkorf_solve 51,229,
- * zoetelkorf_update 53,501, zoetelkorf_read 44,392, zoetelkorf_write 424. Nothing proves these figures.
+ * Stack of a call that succeeds, in bytes, as bench/stack measures it: zoetelkorf_check 37,304, zoetelkorf_solve 50,981,
+ * zoetelkorf_update 53,221, zoetelkorf_read 44,456, zoetelkorf_write 432. Nothing proves these figures.
  * A solve or an update ends on every game, but no bound on its time is proved: see README, 'How slow a small game can be'.
  * With n the length of owners: priorities n, starts n + 1, winners n, moves n, work 4 * n.
  */
