@@ -1,5 +1,5 @@
 -- What the closure reached, from the differing vertices over all edges, is what has a path to a differing vertex.
-use Prim.Native.Nat.{ℕ, ◌*◌}
+use Prim.Native.Nat.{ℕ}
 use mathlib.Core.Path.{◌≡◌, sym, ap, subst, ◌∙◌}
 use mathlib.Core.List.{List}
 use native.Mathlib.Omega.{arith}
@@ -13,9 +13,9 @@ use Rattle.storage.proofs.Zeros.{filled_zeroed}
 use Rattle.space.specs.parts.Work.{section}
 use Rattle.space.proofs.Sections.{section_long, section_filled}
 use Rattle.reach.specs.parts.Closure.{Allowed}
-use Rattle.reach.specs.parts.Queue.{ClosableIn, ClosedIn}
+use Rattle.reach.specs.parts.Queue.{ClosedIn}
 use Rattle.amend.specs.promise.Amended.{Differs, CountOf}
-use Rattle.amend.specs.parts.Marking.{Flags, Seeding, Copyable, Copied, ReachedBy, Findable, FoundReached}
+use Rattle.amend.specs.parts.Marking.{Flags, Seeding, Copied, ReachedBy, Findable, FoundReached}
 use Rattle.amend.proofs.Counts.{count_of}
 use Rattle.amend.proofs.Copies.{copied_flags}
 
@@ -34,22 +34,6 @@ module _
 
     -- seeded : the work space with the differing vertices as seeds
     module _ {seeded : List ℕ} {tail : ℕ} (s : Seeding (Differs g h) n work seeded tail n) where
-      long : length seeded ≡ 4 * n
-      long = s.beside.long ∙ m.seedable.long
-
-      pub closing_asks : {choice : List ℕ} → ClosableIn n ins froms choice seeded tail
-      closing_asks =
-          record {
-            long = long;
-            closable =
-                record {
-                  back = m.preds.backward;
-                  small = m.seedable.paired.second.sound.few;
-                  level_long = section_long n seeded long 0 (omega arith);
-                  queued = s.queued;
-                };
-          }
-
       -- every edge of the second game is allowed, and nothing else is
       edge_of : {choice : List ℕ} {v w : ℕ} → Allowed n ins froms (section 0 n seeded) choice 0 v w → Edge h v w
       edge_of a = m.preds.edge _ _ a.edge
@@ -67,15 +51,6 @@ module _
 
       -- closed : the work space after the closure
       module _ {choice closed : List ℕ} {r : ℕ} (q : ClosedIn n ins froms choice 0 seeded closed r) where
-        pub copying_asks : Copyable n reached closed
-        copying_asks =
-            record {
-              small = m.seedable.paired.second.sound.few;
-              room = m.reached_room;
-              long = q.beside.long ∙ long;
-              flag = q.closed.queued.flag;
-            }
-
         -- without any choice
         module _ (none : length choice ≡ 0) where
           -- what reaches a reached vertex is reached

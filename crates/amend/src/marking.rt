@@ -27,8 +27,7 @@ fn seed_differing(
 {
     let n = owners2.len();
     let mut tail: usize = 0;
-    let mut v: usize = 0;
-    while v < n {
+    for v in 0..n {
         if differs(
             v,
             owners,
@@ -42,7 +41,6 @@ fn seed_differing(
         ) {
             tail = seed(n, v, work, tail);
         }
-        v += 1;
     }
     tail
 }
@@ -52,10 +50,8 @@ fn copy_reached(n: usize, work: &[u16], bytes: &mut [u8])
     requires { Copyable n bytes.old work.now }
     ensures { Copied n work.now bytes.new n }
 {
-    let mut v = 0;
-    while v < n {
+    for v in 0..n {
         bytes[v] = reached(n, v, work) as u8;
-        v += 1;
     }
 }
 

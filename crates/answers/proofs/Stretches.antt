@@ -4,7 +4,7 @@ use mathlib.Core.Path.{◌≡◌, refl, sym, ap, subst, ◌∙◌}
 use mathlib.Core.List.{List}
 use mathlib.Core.Bool.{Bool}
 use lib.ListN.{length, get_or}
-use Rattle.game.specs.promise.Game.{Game, Listed, Ascending}
+use Rattle.game.specs.promise.Game.{Game, Listed}
 use Rattle.winning.specs.promise.Faults.{Fault12, Fault13, own, other}
 use Rattle.game.specs.promise.Tables.{next_of, game_of, Tables, vertices}
 use Rattle.storage.specs.promise.Answer.{Answer, mark_room, mark_of, move_of}
@@ -49,20 +49,16 @@ module _ {tables : Tables} {answer : Answer} (a : Answered tables answer) {v : �
   pub stretch_marks : {r : List ℕ} → r ≡ next_of tables.starts tables.targets v → (i : ℕ) → i < length r → get_or r i 0 < mark_room answer.winners
   stretch_marks e i h = has_room a.stored (stretch_inside e i h)
 
-  -- and they ascend
-  pub stretch_ascends : {r : List ℕ} → r ≡ next_of tables.starts tables.targets v → Ascending r
-  stretch_ascends e = subst Ascending (sym e) (a.well_formed.sound.ascending v l)
-
   abbrev g : Game
   g = game_of tables
 
   -- what the tests by the stretch say of the rows
-  pub says12 : {r : List ℕ} {p m : ℕ} {b : Bool} → r ≡ next_of tables.starts tables.targets v → p ≡ mark_of answer.winners v → m ≡ move_of answer.moves v → Says (WrongMove (mark_of answer.winners) r (get_or tables.owners v 0) p m) b → Says (Fault12 g (mark_of answer.winners) (move_of answer.moves) v) b
-  says12 er ep em s =
+  pub says12 : {r : List ℕ} {o p m : ℕ} {b : Bool} → r ≡ next_of tables.starts tables.targets v → o ≡ get_or tables.owners v 0 → p ≡ mark_of answer.winners v → m ≡ move_of answer.moves v → Says (WrongMove (mark_of answer.winners) r o p m) b → Says (Fault12 g (mark_of answer.winners) (move_of answer.moves) v) b
+  says12 er eo ep em s =
       let inside = a.well_formed.sound.inside in
-      says_iff (fault12 g (mark_of answer.winners) (move_of answer.moves) inside v l) (fault12_only g (mark_of answer.winners) (move_of answer.moves) inside v l) (rw (er, ep, em) at s)
+      says_iff (fault12 g (mark_of answer.winners) (move_of answer.moves) inside v l) (fault12_only g (mark_of answer.winners) (move_of answer.moves) inside v l) (rw (er, eo, ep, em) at s)
 
-  pub says13 : {r : List ℕ} {p : ℕ} {b : Bool} → r ≡ next_of tables.starts tables.targets v → p ≡ mark_of answer.winners v → Says (Escape (mark_of answer.winners) r (get_or tables.owners v 0) p) b → Says (Fault13 g (mark_of answer.winners) (move_of answer.moves) v) b
-  says13 er ep s =
+  pub says13 : {r : List ℕ} {o p : ℕ} {b : Bool} → r ≡ next_of tables.starts tables.targets v → o ≡ get_or tables.owners v 0 → p ≡ mark_of answer.winners v → Says (Escape (mark_of answer.winners) r o p) b → Says (Fault13 g (mark_of answer.winners) (move_of answer.moves) v) b
+  says13 er eo ep s =
       let inside = a.well_formed.sound.inside in
-      says_iff (fault13 g (mark_of answer.winners) (move_of answer.moves) inside v l) (fault13_only g (mark_of answer.winners) (move_of answer.moves) inside v l) (rw (er, ep) at s)
+      says_iff (fault13 g (mark_of answer.winners) (move_of answer.moves) inside v l) (fault13_only g (mark_of answer.winners) (move_of answer.moves) inside v l) (rw (er, eo, ep) at s)

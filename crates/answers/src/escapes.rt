@@ -2,6 +2,7 @@
 ghost use Rattle.std.specs.Prelude.{ℕ, ◌<◌, length, get_or};
 ghost use Rattle.refusal.specs.parts.Found.{Finds};
 ghost use Rattle.refusal.specs.parts.Says.{Says};
+ghost use Rattle.player.specs.promise.Named.{bit_of};
 ghost use Rattle.game.specs.promise.Tables.{game_of};
 ghost use Rattle.game.specs.promise.Lent.{asked, lent};
 ghost use Rattle.storage.specs.promise.Answer.{mark_room, mark_of, move_of};
@@ -10,27 +11,23 @@ ghost use Rattle.winning.specs.promise.Faults.{Fault13};
 ghost use Rattle.answers.specs.parts.Answered.{Answered};
 ghost use Rattle.answers.specs.parts.Tests.{Escape};
 
-use game::vertex::{successors, wide};
+use game::vertex::{owner, successors, wide};
 use player::Player;
-use refusal::Found;
 use storage::Winner;
 use storage::answer::mark;
 
 // Whether a vertex with the mark p is owned by the loser and has a successor with another mark.
-fn is_escape(owner: Player, stretch: &[u16], winners: &[Winner], p: Player) -> bool
+fn is_escape(owner: Player, stretch: &[u16], winners: &[Winner], p: u8) -> bool
     requires { (i : ℕ) → i < length stretch.now → get_or stretch.now i 0 < mark_room winners.now }
-    ensures { Says (Escape (mark_of winners.now) stretch.now owner.bit p.bit) result }
+    ensures { Says (Escape (mark_of winners.now) stretch.now (bit_of owner) p) result }
 {
-    let bit = p.bit;
-    if owner.bit == bit {
+    if u8::from(owner) == p {
         return false;
     }
-    let mut i = 0;
-    while i < stretch.len() {
-        if mark(winners, wide(stretch[i])) != bit {
+    for &w in stretch {
+        if mark(winners, wide(w)) != p {
             return true;
         }
-        i += 1;
     }
     false
 }
@@ -43,24 +40,15 @@ pub fn open_escape(
     targets: &[u16],
     winners: &[Winner],
     moves: &[u16],
-) -> Found
+) -> Option<usize>
     requires { Answered (asked owners priorities starts targets) (claim winners moves) }
     ensures { Finds (Fault13 (game_of (lent owners priorities starts targets)) (mark_of winners.now) (move_of moves.now)) result }
 {
-    let n = owners.len();
-    let mut v = 0;
-    while v < n {
-        let bit = mark(winners, v);
-        let p = Player { bit };
-        if is_escape(
-            Player { bit: owners[v] },
-            successors(starts, targets, v),
-            winners,
-            p,
-        ) {
-            return Found::At(v);
+    for v in 0..owners.len() {
+        let p = mark(winners, v);
+        if is_escape(owner(owners, v), successors(starts, targets, v), winners, p) {
+            return Some(v);
         }
-        v += 1;
     }
-    Found::Nowhere
+    None
 }

@@ -40,12 +40,11 @@ pub fn drain(
     ensures moved { Drawn 0 (lent owners priorities starts targets) ins.now froms.now winners.old moves.old work.old (desk_of desk.new) winners.new moves.new work.new }
 {
     let mut pile = Pile { tail, top: 0 };
-    let mut left = budget;
-    while 0 < left {
+    for spent in 0..budget {
         let end = pile.tail;
         if end == 0 {
             return Left {
-                budget: left,
+                budget: budget - spent,
                 top: pile.top,
             };
         }
@@ -69,7 +68,6 @@ pub fn drain(
             moves,
             work,
         );
-        left -= 1;
     }
     Left {
         budget: 0,

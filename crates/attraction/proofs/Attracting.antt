@@ -1,13 +1,10 @@
 -- Attraction: a sweep, a pick and a probe one after the other.
-use Prim.Native.Nat.{ℕ, ◌<◌, ◌≤◌}
+use Prim.Native.Nat.{ℕ}
 use mathlib.Core.Path.{◌≡◌}
 use mathlib.Core.List.{List}
-use native.Mathlib.Decide.{dec_lt}
-use native.Mathlib.Omega.{arith}
 use Rattle.game.specs.promise.Tables.{Tables, vertices}
 use Rattle.space.specs.parts.Desk.{Desk}
-use Rattle.pick.specs.declared.Picked.{Picked}
-use Rattle.pick.specs.declared.Picked.TheVariants.{At, Nothing}
+use Rattle.std.specs.Prelude.{Option, Some, None}
 use Rattle.pick.specs.parts.Order.{Picks}
 use Rattle.step.proofs.Moving.{moved_more}
 use Rattle.draw.specs.parts.Drawing.{Drawn}
@@ -17,11 +14,11 @@ use Rattle.orders.proofs.Running.{none_below_zero, picked_moved, picked_least, p
 use Rattle.probe.specs.parts.Probing.{Probable}
 
 module _
-    {tables : Tables} {ins froms winners₀ moves₀ work₀ : List ℕ} {d : Desk} {winners moves work : List ℕ} {d' : Desk} {r : Picked}
+    {tables : Tables} {ins froms winners₀ moves₀ work₀ : List ℕ} {d : Desk} {winners moves work : List ℕ} {d' : Desk} {r : Option ℕ}
     (x : Drawn 0 tables ins froms winners₀ moves₀ work₀ d winners moves work)
     (p : Picks (vertices tables) 0 d work d' r)
   where
-    pub picked_probable : {v : ℕ} → r ≡ At v → Probable v tables ins froms d' winners moves work
+    pub picked_probable : {v : ℕ} → r ≡ Some v → Probable v tables ins froms d' winners moves work
     picked_probable h =
         record {
           engine = (picked_moved x.moved.engine none_below_zero p).engine;
@@ -29,13 +26,9 @@ module _
         }
 
     -- nothing is open
-    pub attracted_all : r ≡ Nothing → Ran tables ins froms winners₀ moves₀ work₀ d' winners moves work Done
+    pub attracted_all : r ≡ None → Ran tables ins froms winners₀ moves₀ work₀ d' winners moves work Done
     attracted_all h =
         record {
           moved = moved_more x.moved (picked_moved x.moved.engine none_below_zero p);
           ends = picked_all x.moved.engine none_below_zero p h;
         }
-
--- each turn leaves less of the budget
-pub spends : {left swept rest : ℕ} → 0 < left → swept ≤ left → rest ≤ swept → (0 < swept → rest < swept) → rest < left
-spends {left} {swept} {rest} some a b less = elim (dec_lt 0 swept) [ yes l ↦ omega (arith, less l) | no h ↦ omega arith ]

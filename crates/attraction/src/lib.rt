@@ -7,8 +7,7 @@ ghost use Rattle.draw.specs.parts.Drawing.{Drainable};
 ghost use Rattle.orders.specs.parts.Ending.{Ran};
 
 use orders::Ended;
-use pick::{Picked, pick};
-use pile::larger;
+use pick::pick;
 use probe::probe;
 use storage::Winner;
 use sweep::sweep;
@@ -33,19 +32,19 @@ pub fn attraction(
     let n = owners.len();
     let mut top: usize = 256;
     let mut left = budget;
+    // No `for`: one turn takes as much of the budget as it has visits.
     while 0 < left {
         let swept = sweep(
             top, left, owners, priorities, starts, targets, ins, froms, desk, winners, moves, work,
         );
-        let picked = pick(n, 0, desk, work);
-        let Picked::At(v) = picked else {
+        let Some(v) = pick(n, 0, desk, work) else {
             return Ended::Done;
         };
         let rest = swept.budget;
         let drained = probe(
             v, rest, owners, priorities, starts, targets, ins, froms, desk, winners, moves, work,
         );
-        top = larger(swept.top, drained.top);
+        top = swept.top.max(drained.top);
         left = drained.budget;
     }
     Ended::Spent

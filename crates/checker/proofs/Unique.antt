@@ -2,10 +2,11 @@
 use Prim.Native.Nat.{ℕ}
 use mathlib.Core.Path.{◌≡◌, refl, sym, ap, ◌∙◌}
 use mathlib.Core.List.{List, []}
-use native.Mathlib.Omega.{arith}
 use lib.ListN.{length}
+use Rattle.std.specs.Prelude.{Result, Ok, Err}
 use Rattle.refusal.specs.promise.Row.{Said, success, refused, None}
-use Rattle.refusal.specs.promise.Number.{number_of}
+use Rattle.refusal.specs.declared.Refusal.{Refusal}
+use Rattle.refusal.specs.promise.Number.{number_of, tested_said}
 use Rattle.refusal.proofs.Rows.{first_not_none, first_unique, none_append}
 use Rattle.refusal.proofs.Numbers.{refusal_unique}
 use Rattle.game.specs.promise.Tables.{Tables, vertices, WellFormed}
@@ -14,17 +15,15 @@ use Rattle.game.specs.promise.Lent.{Fit}
 use Rattle.storage.specs.promise.Lent.{lent_sizes}
 use Rattle.storage.proofs.Zeros.{leaves_unique, zeroed_unique}
 use Rattle.storage.proofs.Passed.{lent_fits}
-use Rattle.checker.specs.declared.Verdict.{Verdict}
-use Rattle.checker.specs.declared.Verdict.TheVariants as verdicts
-use Rattle.checker.specs.promise.Checking.{verdict_said, IsRight, judge_rows, before_rows, check_rows, Checks}
+use Rattle.checker.specs.promise.Checking.{IsRight, judge_rows, before_rows, check_rows, Checks}
 use Rattle.checker.proofs.Verdicts.{none_of_right}
 
 -- what is said determines the verdict
-said_unique : (v w : Verdict) → verdict_said v ≡ verdict_said w → v ≡ w
-said_unique verdicts.Accepted verdicts.Accepted e = refl
-said_unique verdicts.Accepted (verdicts.Refused r) e = let z : ◌≡◌ {A = ℕ} 0 1 = cc in absurd (omega arith)
-said_unique (verdicts.Refused q) verdicts.Accepted e = let z : ◌≡◌ {A = ℕ} 0 1 = cc in absurd (omega arith)
-said_unique (verdicts.Refused q) (verdicts.Refused r) e = ap verdicts.Refused (refusal_unique q r e)
+said_unique : (v w : Result Unit Refusal) → tested_said v ≡ tested_said w → v ≡ w
+said_unique (Ok x) (Ok y) e = refl
+said_unique (Ok x) (Err r) e = absurd (cc)
+said_unique (Err q) (Ok y) e = absurd (cc)
+said_unique (Err q) (Err r) e = ap Err (refusal_unique q r e)
 
 module _ (t : Tables) (a : Answer) (work : List ℕ) where
   -- none of the rows applies to a right answer that 1 to 8 let pass
@@ -42,16 +41,16 @@ module _ (t : Tables) (a : Answer) (work : List ℕ) where
       (e, leaves_unique same x.leaves y.leaves)
 
   -- so no second verdict satisfies the promise
-  pub answer_unique : (work1 work2 : List ℕ) (v w : Verdict) → Checks t a work work1 (verdict_said v) → Checks t a work work2 (verdict_said w) → v ≡ w
-  answer_unique work1 work2 v w x y = said_unique v w (checks_unique work1 work2 (verdict_said v) (verdict_said w) x y).0
+  pub answer_unique : (work1 work2 : List ℕ) (v w : Result Unit Refusal) → Checks t a work work1 (tested_said v) → Checks t a work work2 (tested_said w) → v ≡ w
+  answer_unique work1 work2 v w x y = said_unique v w (checks_unique work1 work2 (tested_said v) (tested_said w) x y).0
 
   -- an accepted answer is right, and a right one to a well-formed game, in lists that fit, is accepted
   pub accepted_is_right : (work' : List ℕ) → Checks t a work work' (success []) → IsRight t a
   accepted_is_right work' x = x.right
 
   pub right_is_accepted :
-      (work' : List ℕ) (v : Verdict) → WellFormed t → Fit (lent_sizes (vertices t) (length a.winners) (length a.moves) (length work)) → IsRight t a →
-      Checks t a work work' (verdict_said v) → v ≡ verdicts.Accepted
-  right_is_accepted work' verdicts.Accepted w f r x = refl
-  right_is_accepted work' (verdicts.Refused q) w f r x =
+      (work' : List ℕ) (v : Result Unit Refusal) → WellFormed t → Fit (lent_sizes (vertices t) (length a.winners) (length a.moves) (length work)) → IsRight t a →
+      Checks t a work work' (tested_said v) → v ≡ Ok tt
+  right_is_accepted work' (Ok u) w f r x = refl
+  right_is_accepted work' (Err q) w f r x =
       absurd (first_not_none (check_rows t a work) (number_of q.kind) q.place x.first (none_at_all (lent_fits t _ _ _ w f) r))

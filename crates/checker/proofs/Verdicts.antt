@@ -3,21 +3,17 @@ use Prim.Native.Nat.{ℕ, ◌<◌}
 use mathlib.Core.Path.{◌≡◌, refl, sym, subst}
 use mathlib.Core.List.{List}
 use native.Mathlib.Omega.{arith}
-use Rattle.refusal.specs.promise.Row.{Said, First, None}
-use Rattle.refusal.specs.promise.Number.{number_of, said_of}
-use Rattle.refusal.specs.parts.Found.{tested_said}
+use Rattle.std.specs.Prelude.{Result, Ok, Err}
+use Rattle.refusal.specs.promise.Row.{First, None, Gives}
+use Rattle.refusal.specs.promise.Number.{number_of, said_of, tested_said}
 use Rattle.refusal.specs.declared.Refusal.{Refusal}
-use Rattle.refusal.specs.declared.Tested.{Tested}
-use Rattle.refusal.specs.declared.Tested.TheVariants as tested
-use Rattle.refusal.proofs.Rows.{Given, whatever, first_right, first_not_none, first_number}
+use Rattle.refusal.proofs.Rows.{first_left, first_right, first_not_none, first_number}
 use Rattle.game.specs.promise.Tables.{Tables, game_of}
 use Rattle.storage.specs.promise.Answer.{Answer, mark_of, move_of}
-use Rattle.storage.specs.promise.Lent.{Judging, Zeroed}
+use Rattle.storage.specs.promise.Lent.{Judging}
 use Rattle.storage.proofs.Stores.{marks_players, players_marks}
 use Rattle.winning.proofs.Accepted.{accepted_right, right_accepted}
-use Rattle.checker.specs.declared.Verdict.{Verdict}
-use Rattle.checker.specs.declared.Verdict.TheVariants.{Accepted, Refused}
-use Rattle.checker.specs.promise.Checking.{verdict_said, IsRight, judge_rows, before_rows, Checks}
+use Rattle.checker.specs.promise.Checking.{IsRight, judge_rows, before_rows, Checks}
 use Rattle.checker.specs.parts.Judging.{Judged}
 
 module _ (t : Tables) (a : Answer) where
@@ -29,10 +25,6 @@ module _ (t : Tables) (a : Answer) where
   none_of_right r = let c = right_accepted (game_of t) (mark_of a.winners) (move_of a.moves) r in (players_marks c.players, c.none)
 
 module _ (t : Tables) (a : Answer) (work : List ℕ) where
-  -- what `judge` gives
-  pub judged : {work' : List ℕ} {result : Said} {said : Tested} → result ≡ tested_said said → Given (judge_rows t a) said → Zeroed work work' → Judged t a work work' result
-  judged {work'} {said = said} e g z = subst (Judged t a work work') (sym e) (record { gives = g.gives; zeroed = z })
-
   -- 1 to 8 do not judge the answer, 11 to 14 do
   low : (k x : ℕ) → First (before_rows t a work) k x → k < 11
   low k x f = first_number (λ (m : ℕ). m < 11) (before_rows t a work) k x (omega arith) f
@@ -41,23 +33,25 @@ module _ (t : Tables) (a : Answer) (work : List ℕ) where
   high k x f = first_number Judging (judge_rows t a) k x (omega arith) f
 
   -- a refusal before the answer is judged
-  pub checked_before : {said : Tested} {r : Refusal} → said ≡ tested.Refused r → Given (before_rows t a work) said → Checks t a work work (said_of r)
-  checked_before {said} {r} e g =
-      let l = low (number_of r.kind) r.place (subst (λ (s : Tested). Given (before_rows t a work) s) e g).gives in
-      record {
-        first = whatever (judge_rows t a) e g;
+  pub checked_before : {said q : Result Unit Refusal} {r : Refusal} → Gives (before_rows t a work) (tested_said said) → said ≡ Err r → q ≡ Err r → Checks t a work work (tested_said q)
+  checked_before {r = r} g e d =
+      let f : First (before_rows t a work) (number_of r.kind) r.place = subst (λ (s : Result Unit Refusal). Gives (before_rows t a work) (tested_said s)) e g in
+      let l = low (number_of r.kind) r.place f in
+      let refused_early : Checks t a work work (said_of r) = record {
+        first = first_left (before_rows t a work) (judge_rows t a) (number_of r.kind) r.place f;
         wrong = λ j. absurd (no l j);
         leaves = record { zeroed = λ j. absurd (no l j); same = λ _. refl };
-      }
+      } in
+      subst (λ (s : Result Unit Refusal). Checks t a work work (tested_said s)) (sym d) refused_early
     where
       no : {k : ℕ} → k < 11 → Judging k → ⊥
       no l j = omega (arith, l, j.least)
 
   -- what `judge` says
-  pub checked_judged : (work' : List ℕ) (v : Verdict) → None (before_rows t a work) → Judged t a work work' (verdict_said v) → Checks t a work work' (verdict_said v)
-  checked_judged work' Accepted n j =
+  pub checked_judged : (work' : List ℕ) (v : Result Unit Refusal) → None (before_rows t a work) → Judged t a work work' (tested_said v) → Checks t a work work' (tested_said v)
+  checked_judged work' (Ok u) n j =
       record { none = n; right = right_of_none t a j.gives; no_value = refl; zeroed = j.zeroed }
-  checked_judged work' (Refused r) n j =
+  checked_judged work' (Err r) n j =
       let k = number_of r.kind in
       record {
         first = first_right (before_rows t a work) (judge_rows t a) k r.place n j.gives;

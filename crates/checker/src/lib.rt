@@ -1,11 +1,10 @@
 // The checker of answers: whether winners and moves, from anyone, are right for a game.
 #![tactic(auto)]
 
-ghost use Rattle.std.specs.Prelude.{◌≡◌};
-ghost use Rattle.refusal.specs.parts.Found.{tested_said};
+ghost use Rattle.refusal.specs.promise.Number.{tested_said};
 ghost use Rattle.game.specs.promise.Lent.{asked, lent};
 ghost use Rattle.storage.specs.promise.Lent.{claim, claimed};
-ghost use Rattle.checker.specs.promise.Checking.{Checks, verdict_said};
+ghost use Rattle.checker.specs.promise.Checking.{Checks};
 ghost use Rattle.checker.specs.parts.Judging.{Judgeable, JudgeableIn, Judged};
 
 use answers::escapes::open_escape;
@@ -14,28 +13,11 @@ use cycles::lost::lost_cycle;
 use game::EDGES;
 use preds::INS;
 use preds::build::predecessors;
-use refusal::{AnswerFault, Kind, Refusal, Tested, or};
+use refusal::{AnswerFault, Kind, Refusal, refuse};
 use space::fill::fill;
 use storage::Winner;
 use storage::marks::strange_mark;
 use tables::lent::test_lent;
-
-// Accepted, or the first of 1 to 8 and 11 to 14 that applies.
-#[derive(Drop)]
-pub enum Verdict {
-    Accepted,
-    Refused(Refusal),
-}
-
-// The verdict for what the tests say.
-fn as_verdict(said: Tested) -> Verdict
-    ensures { verdict_said result ≡ tested_said said }
-{
-    match said {
-        Tested::Passed => Verdict::Accepted,
-        Tested::Refused(r) => Verdict::Refused(r),
-    }
-}
 
 // 11 to 14, each over all vertices before the next, on an answer to a game that has passed 1 to 8, with the game's predecessor lists.
 pub fn judge(
@@ -48,24 +30,29 @@ pub fn judge(
     ins: &[u16],
     froms: &[u16],
     work: &mut [u16],
-) -> Verdict
+) -> Result<(), Refusal>
     requires { Judgeable (asked owners priorities starts targets) (claim winners moves) ins.now froms.now work.old }
-    ensures { Judged (lent owners priorities starts targets) (claimed winners moves) work.old work.new (verdict_said result) }
+    ensures { Judged (lent owners priorities starts targets) (claimed winners moves) work.old work.new (tested_said result) }
 {
     fill(work, 0);
-    let strange = strange_mark(owners.len(), winners);
-    let one = or(Tested::Passed, strange, Kind::Claim(AnswerFault::Mark));
-    let wrong = wrong_move(owners, priorities, starts, targets, winners, moves);
-    let two = or(one, wrong, Kind::Claim(AnswerFault::Move));
-    let escape = open_escape(owners, priorities, starts, targets, winners, moves);
-    let three = or(two, escape, Kind::Claim(AnswerFault::Escape));
-    if let Tested::Refused(r) = three {
-        return Verdict::Refused(r);
-    }
-    let lost = lost_cycle(
-        owners, priorities, starts, targets, winners, moves, ins, froms, work,
-    );
-    as_verdict(or(three, lost, Kind::Claim(AnswerFault::Cycle)))
+    refuse(
+        strange_mark(owners.len(), winners),
+        Kind::Claim(AnswerFault::Mark),
+    )?;
+    refuse(
+        wrong_move(owners, priorities, starts, targets, winners, moves),
+        Kind::Claim(AnswerFault::Move),
+    )?;
+    refuse(
+        open_escape(owners, priorities, starts, targets, winners, moves),
+        Kind::Claim(AnswerFault::Escape),
+    )?;
+    refuse(
+        lost_cycle(
+            owners, priorities, starts, targets, winners, moves, ins, froms, work,
+        ),
+        Kind::Claim(AnswerFault::Cycle),
+    )
 }
 
 // The same, where the game's predecessor lists are made in lent lists, whatever these hold.
@@ -79,9 +66,9 @@ pub fn judge_in(
     ins: &mut [u16],
     froms: &mut [u16],
     work: &mut [u16],
-) -> Verdict
+) -> Result<(), Refusal>
     requires { JudgeableIn (asked owners priorities starts targets) (claim winners moves) ins.old froms.old work.old }
-    ensures { Judged (lent owners priorities starts targets) (claimed winners moves) work.old work.new (verdict_said result) }
+    ensures { Judged (lent owners priorities starts targets) (claimed winners moves) work.old work.new (tested_said result) }
 {
     predecessors(owners, priorities, starts, targets, ins, froms);
     judge(
@@ -98,10 +85,10 @@ pub fn check(
     winners: &[Winner],
     moves: &[u16],
     work: &mut [u16],
-) -> Verdict
-    ensures { Checks (lent owners priorities starts targets) (claimed winners moves) work.old work.new (verdict_said result) }
+) -> Result<(), Refusal>
+    ensures { Checks (lent owners priorities starts targets) (claimed winners moves) work.old work.new (tested_said result) }
 {
-    let tested = test_lent(
+    test_lent(
         owners,
         priorities,
         starts,
@@ -109,10 +96,7 @@ pub fn check(
         winners.len(),
         moves.len(),
         work.len(),
-    );
-    if let Tested::Refused(r) = tested {
-        return Verdict::Refused(r);
-    }
+    )?;
     let mut ins = [0u16; INS];
     let mut froms = [0u16; EDGES];
     judge_in(

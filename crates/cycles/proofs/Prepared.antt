@@ -1,6 +1,6 @@
 -- The work space when the vertices are gone through: zero before, levels in place.
-use Prim.Native.Nat.{ℕ, ◌*◌, ◌<◌, ◌≤◌}
-use mathlib.Core.Path.{◌≡◌, sym, ap, subst, ◌∙◌}
+use Prim.Native.Nat.{ℕ, ◌<◌}
+use mathlib.Core.Path.{◌≡◌, subst, ◌∙◌}
 use mathlib.Core.Logic.{◌≢◌}
 use mathlib.Core.List.{List}
 use native.Mathlib.Omega.{arith}
@@ -9,7 +9,7 @@ use Rattle.game.specs.promise.Tables.{Tables, vertices}
 use Rattle.storage.specs.promise.Answer.{Answer}
 use Rattle.space.specs.parts.Work.{section}
 use Rattle.reach.proofs.Queues.{filled_queued}
-use Rattle.cycles.specs.parts.Levels.{LevelsAsked, PrioritiesSet}
+use Rattle.cycles.specs.parts.Levels.{PrioritiesSet}
 use Rattle.cycles.specs.parts.Lost.{LostAsked}
 use Rattle.cycles.specs.parts.Rounds.{Rounding}
 
@@ -19,13 +19,6 @@ module _ {tables : Tables} {answer : Answer} {ins froms work : List ℕ} (a : Lo
 
   level : length tables.priorities ≡ n
   level = a.passed.answered.well_formed.level
-
-  pub levels_asked : LevelsAsked tables.priorities work
-  levels_asked =
-      record {
-        small = subst (λ (k : ℕ). k ≤ 2048) (sym level) a.passed.answered.well_formed.sound.few;
-        long = a.work_long ∙ ap (λ (k : ℕ). 4 * k) (sym level);
-      }
 
   -- the levels are set
   pub rounding : {work' : List ℕ} → PrioritiesSet tables.priorities work work' → Rounding 0 tables answer ins froms work'

@@ -18,9 +18,8 @@ use Rattle.winning.specs.promise.Faults.{Fault14}
 use Rattle.winning.proofs.Backed.{Backed, backed}
 use Rattle.space.specs.parts.Work.{section}
 use Rattle.reach.specs.parts.Closure.{ClosedFrom, Queued}
-use Rattle.reach.specs.parts.Queue.{SeedableIn, PushedIn, ClosableIn, ClosedIn, ClearableIn, ClearedIn}
-use Rattle.space.proofs.Sections.{section_long}
-use Rattle.reach.proofs.Queues.{pushed_queued, cleared_queued}
+use Rattle.reach.specs.parts.Queue.{SeedableIn, PushedIn, ClosedIn, ClearedIn}
+use Rattle.reach.proofs.Queues.{cleared_queued}
 use Rattle.refusal.specs.parts.Says.{Says}
 use Rattle.cycles.specs.parts.Back.{Backable, Comes}
 use Rattle.cycles.specs.parts.Rounds.{Rounding, Ready}
@@ -73,19 +72,6 @@ module _ {x : ℕ} {tables : Tables} {answer : Answer} {ins froms work : List �
         apart : ◌≡◌ {A = ℕ} 1 0 → ⊥
         apart e = omega arith
 
-    pub closable : ClosableIn n ins froms answer.moves work1 one
-    closable =
-        record {
-          long = long1;
-          closable =
-              record {
-                back = r.preds.backward;
-                small = r.passed.answered.well_formed.sound.few;
-                level_long = section_long n work1 long1 0 (omega arith);
-                queued = pushed_queued p.pushed;
-              };
-        }
-
     module _ {work2 : List ℕ} {bound tail : ℕ} (is_bound : bound ≡ get_or tables.priorities x 0) (c : ClosedIn n ins froms answer.moves bound work1 work2 tail) where
       long2 : length work2 ≡ 4 * n
       long2 = c.beside.long ∙ long1
@@ -111,9 +97,6 @@ module _ {x : ℕ} {tables : Tables} {answer : Answer} {ins froms work : List �
           (fault14 tables answer ins froms r.passed.answered r.preds b x lost r.vertex _ _ single closed2)
           (fault14_only tables answer ins froms r.passed.answered r.preds b x lost r.vertex _ _ single closed2)
           (rw (e, em) at s)
-
-      pub clearable : ClearableIn n work2 tail
-      clearable = record { long = long2; small = r.passed.answered.well_formed.sound.few; queued = c.closed.queued }
 
       pub ready_again : {work3 : List ℕ} → ClearedIn n work2 work3 → Ready n tables.priorities work3
       ready_again d =

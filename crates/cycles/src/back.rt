@@ -15,12 +15,10 @@ pub fn comes_back(n: usize, stretch: &[u16], m: u16, work: &[u16]) -> bool
     if m != NONE {
         return reached(n, wide(m), work) == 1;
     }
-    let mut i = 0;
-    while i < stretch.len() {
-        if reached(n, wide(stretch[i]), work) == 1 {
+    for &w in stretch {
+        if reached(n, wide(w), work) == 1 {
             return true;
         }
-        i += 1;
     }
     false
 }

@@ -9,9 +9,7 @@ pub fn set_levels(priorities: &[u8], work: &mut [u16])
     ensures { PrioritiesSet priorities.now work.old work.new }
 {
     let n = priorities.len();
-    let mut v = 0;
-    while v < n {
-        set_flag(n, v, priorities[v] as u16, work);
-        v += 1;
+    for (v, &priority) in priorities.iter().enumerate() {
+        set_flag(n, v, u16::from(priority), work);
     }
 }

@@ -13,7 +13,6 @@ use crate::levels::set_levels;
 use game::vertex::successors;
 use player::Player;
 use reach::closure::{clear, close, seed};
-use refusal::Found;
 use space::fill::fill;
 use storage::Winner;
 use storage::answer::{mark, recorded};
@@ -34,11 +33,11 @@ fn is_lost(
     requires { Rounding x (asked owners priorities starts targets) (claim winners moves) ins.now froms.now work.old }
     ensures { Rounds x (lent owners priorities starts targets) (claimed winners moves) work.new result }
 {
-    if Player::of_priority(priorities[x]).bit == mark(winners, x) {
+    if u8::from(Player::of_priority(priorities[x])) == mark(winners, x) {
         return false;
     }
     let n = owners.len();
-    let bound = priorities[x] as u16;
+    let bound = u16::from(priorities[x]);
     let one = seed(n, x, work, 0);
     let tail = close(n, ins, froms, bound, moves, work, one);
     let back = comes_back(n, successors(starts, targets, x), recorded(moves, x), work);
@@ -57,21 +56,18 @@ fn lowest_lost(
     ins: &[u16],
     froms: &[u16],
     work: &mut [u16],
-) -> Found
+) -> Option<usize>
     requires { Rounding 0 (asked owners priorities starts targets) (claim winners moves) ins.now froms.now work.old }
     ensures { Finds (Fault14 (game_of (lent owners priorities starts targets)) (mark_of winners.now) (move_of moves.now)) result }
 {
-    let n = owners.len();
-    let mut x = 0;
-    while x < n {
+    for x in 0..owners.len() {
         if is_lost(
             x, owners, priorities, starts, targets, winners, moves, ins, froms, work,
         ) {
-            return Found::At(x);
+            return Some(x);
         }
-        x += 1;
     }
-    Found::Nowhere
+    None
 }
 
 // 14, given that none of 11 to 13 applies, the game's predecessor lists, and a work space all zero.
@@ -85,7 +81,7 @@ pub fn lost_cycle(
     ins: &[u16],
     froms: &[u16],
     work: &mut [u16],
-) -> Found
+) -> Option<usize>
     requires { LostAsked (asked owners priorities starts targets) (claim winners moves) ins.now froms.now work.old }
     ensures finds { Finds (Fault14 (game_of (lent owners priorities starts targets)) (mark_of winners.now) (move_of moves.now)) result }
     ensures zeroed { Zeroed work.old work.new }

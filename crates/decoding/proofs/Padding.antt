@@ -1,6 +1,6 @@
 -- Tables that hold a list, with zeros past it: a blank one, the list itself, the list read back, and that there is one table a list.
 use Prim.Native.Nat.{ℕ, ◌+◌, ◌<◌, ◌≤◌}
-use mathlib.Core.Path.{◌≡◌, refl, sym, ◌∙◌}
+use mathlib.Core.Path.{◌≡◌, sym, ◌∙◌}
 use mathlib.Core.List.{List, []}
 use native.Mathlib.Omega.{arith}
 use native.Mathlib.Decide.{dec_lt}
@@ -21,9 +21,6 @@ padded_blank size = record { long = length-replicate size 0; same = λ i. at i (
         let e : length (replicate {A = ℕ} size 0) ≡ size = length-replicate size 0 in
         let l : length (replicate {A = ℕ} size 0) ≤ i = omega arith in
         get_or-eq_default (replicate size 0) 0 l
-
-pub padded_self : {size : ℕ} {list : List ℕ} → length list ≡ size → Padded size list list
-padded_self e = record { long = e; same = λ i. refl }
 
 -- as much of the table as the list is long
 pub padded_take : {size : ℕ} {list table : List ℕ} (n : ℕ) → n ≡ length list → n ≤ size → Padded size list table → take n table ≡ list

@@ -6,29 +6,22 @@ ghost use Rattle.decoding.specs.parts.Places.{Totals};
 
 use crate::places::count;
 use format::bytes::{edges, vertices};
-use refusal::Found;
 
 // The sum of all successor counts.
 fn total(file: &[u8]) -> usize
     requires { FileSized file.now }
     ensures { Totals file.now result }
 {
-    let n = vertices(file);
     let mut sum: usize = 0;
-    let mut v = 0;
-    while v < n {
+    for v in 0..vertices(file) {
         sum += count(file, v) as usize;
-        v += 1;
     }
     sum
 }
 
-pub fn counts(file: &[u8]) -> Found
+pub fn counts(file: &[u8]) -> Option<usize>
     requires { FileSized file.now }
     ensures { Finds (Fault45 file.now) result }
 {
-    if total(file) != edges(file) {
-        return Found::At(0);
-    }
-    Found::Nowhere
+    (total(file) != edges(file)).then_some(0)
 }

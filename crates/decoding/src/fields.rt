@@ -1,5 +1,5 @@
 // The four tables as they are filed, the priorities not yet turned. They are set down in blank tables, so that zeros stand past them.
-ghost use Rattle.std.specs.Prelude.{[]};
+ghost use Rattle.std.specs.Prelude.{◌≡◌, ◌<◌, ◌≤◌, ℕ, [], length, slice_index_or};
 ghost use Rattle.format.specs.promise.Filed.{owners_filed, priorities_filed, starts_filed, targets_filed};
 ghost use Rattle.format.specs.parts.Tests.{FileSized, Summed};
 ghost use Rattle.decoding.specs.promise.Holding.{Padded};
@@ -7,42 +7,42 @@ ghost use Rattle.decoding.specs.promise.Holding.{Padded};
 use crate::places::{count, first_target, owner, priority, target};
 use format::bytes::{edges, vertices};
 
+// The first n cells, each by its place; the others stay.
+fn fill<T: Copy, F: Fn(usize) -> T>(table: &mut [T], n: usize, value: F)
+    requires room { n ≤ length table.old }
+    requires callable { (k : ℕ) → k < n → F.pre value k }
+    ensures long { length table.new ≡ length table.old }
+    ensures filled { (k : ℕ) (d : T) → k < n → F.post value k (slice_index_or table.new k d) }
+    ensures rest { (k : ℕ) (d : T) → n ≤ k → slice_index_or table.new k d ≡ slice_index_or table.old k d }
+{
+    for k in 0..n {
+        table[k] = value(k);
+    }
+}
+
 pub fn owners(file: &[u8], table: &mut [u8])
     requires { FileSized file.now × Padded 2048 [] table.old }
     ensures { Padded 2048 (owners_filed file.now) table.new }
 {
-    let n = vertices(file);
-    let mut v = 0;
-    while v < n {
-        table[v] = owner(file, v);
-        v += 1;
-    }
+    fill(table, vertices(file), |v| owner(file, v));
 }
 
 pub fn priorities(file: &[u8], table: &mut [u8])
     requires { FileSized file.now × Padded 2048 [] table.old }
     ensures { Padded 2048 (priorities_filed file.now) table.new }
 {
-    let n = vertices(file);
-    let mut v = 0;
-    while v < n {
-        table[v] = priority(file, v);
-        v += 1;
-    }
+    fill(table, vertices(file), |v| priority(file, v));
 }
 
-// The first start is the zero that stands there.
+// The first start is the zero that stands there. Each is a running sum, so the loop stands here and not in `fill`.
 pub fn starts(file: &[u8], table: &mut [u16])
     requires { Summed file.now × Padded 2049 [] table.old }
     ensures { Padded 2049 (starts_filed file.now) table.new }
 {
-    let n = vertices(file);
     let mut sum: u16 = 0;
-    let mut v = 0;
-    while v < n {
+    for v in 0..vertices(file) {
         sum += count(file, v);
-        v += 1;
-        table[v] = sum;
+        table[v + 1] = sum;
     }
 }
 
@@ -50,11 +50,6 @@ pub fn targets(file: &[u8], table: &mut [u16])
     requires { FileSized file.now × Padded 16384 [] table.old }
     ensures { Padded 16384 (targets_filed file.now) table.new }
 {
-    let m = edges(file);
     let first = first_target(file);
-    let mut e = 0;
-    while e < m {
-        table[e] = target(file, first, e);
-        e += 1;
-    }
+    fill(table, edges(file), |e| target(file, first, e));
 }

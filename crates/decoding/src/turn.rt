@@ -10,15 +10,7 @@ use format::bytes::{rule, vertices};
 fn highest(priorities: &[u8]) -> u8
     ensures { result ≡ highest_of priorities.now }
 {
-    let mut top: u8 = 0;
-    let mut v = 0;
-    while v < priorities.len() {
-        if priorities[v] > top {
-            top = priorities[v];
-        }
-        v += 1;
-    }
-    top
+    priorities.iter().fold(0, |top, &p| top.max(p))
 }
 
 // The table holds the priorities as filed, and then those of the game.
@@ -31,9 +23,7 @@ pub fn turn(file: &[u8], table: &mut [u8])
     }
     let n = vertices(file);
     let top = highest(&table[..n]);
-    let mut v = 0;
-    while v < n {
-        table[v] = top - table[v];
-        v += 1;
+    for p in &mut table[..n] {
+        *p = top - *p;
     }
 }

@@ -2,7 +2,6 @@
 use Prim.Native.Nat.{ℕ, ◌<◌}
 use mathlib.Core.Path.{◌≡◌, refl, sym, subst}
 use mathlib.Core.List.{List}
-use native.Mathlib.Omega.{arith}
 use native.Mathlib.Decide.{ℕ_discrete}
 use lib.ListN.{length, get_or}
 use Rattle.game.specs.promise.Tables.{game_of, Tables, vertices}
@@ -16,12 +15,8 @@ use Rattle.space.specs.parts.Desk.{Desk}
 use Rattle.step.specs.parts.Stepping.{Engine, Fitting, Moved}
 use Rattle.step.specs.parts.Outcome.{SteppedIn}
 use Rattle.step.proofs.Steps.{stepped}
-use Rattle.step.proofs.Moving.{moved_none}
-use Rattle.pile.specs.parts.Pile.{Pushable, PushedOn}
-use Rattle.offer.specs.parts.Offering.{Grounds, Offerable, Offered, Offers}
-use Rattle.line.specs.declared.Line.{Line}
-use Rattle.offer.specs.declared.Chance.{Chance}
-use Rattle.offer.specs.declared.Chance.TheVariants.{Gets}
+use Rattle.pile.specs.parts.Pile.{PushedOn}
+use Rattle.offer.specs.parts.Offering.{Grounds, Offered}
 use Rattle.draw.specs.parts.Drawing.{Drawable, Drawn}
 use Rattle.draw.proofs.Onward.{engine_pile}
 
@@ -35,21 +30,6 @@ module _
     level : length tables.priorities ≡ vertices tables
     level = e.state.well_formed.level
 
-    pub offerable : Offerable x u tables d winners work
-    offerable =
-        record {
-          well_formed = e.state.well_formed;
-          known =
-              record {
-                small = omega (arith, level, e.standing.small);
-                laid = e.standing.laid;
-                stored = rw level e.state.stored;
-                work_long = omega (arith, level, e.state.work_long);
-              };
-          player = e.state.safe.player;
-          edge = p.edge;
-        }
-
     -- from a vertex whose floor is not below k supports stay above k
     grounds_above : {k w : ℕ} → w < vertices tables → Grounds tables.priorities d.levels work k w → Above (game_of tables) (mark_of winners) (move_of moves) (settled_of (vertices tables) work) w k
     grounds_above {k} {w} l g =
@@ -58,7 +38,7 @@ module _
         (floor_above (game_of tables) (mark_of winners) (move_of moves) (λ v. refl)
         (subst (λ (n : ℕ). Levelled (game_of tables) (mark_of winners) (move_of moves) (settled_of n work) (level_of d.levels)) (sym level) e.levelled) l g.is))
 
-    pub fitting : {q m k : ℕ} → Offered x q m k tables d.levels winners work → Fitting x q m k tables winners moves work
+    fitting : {q m k : ℕ} → Offered x q m k tables d.levels winners work → Fitting x q m k tables winners moves work
     fitting {q} {m} {k} o =
         record {
           player = o.player;
@@ -72,14 +52,6 @@ module _
           onward = λ w h f. grounds_above h.to (o.grounds w h f);
         }
 
-    -- what a caller that has looked at the answer knows
-    pub gets : {r : Chance} {line : Line} → r ≡ Gets line → Offers x tables d.levels winners work r → Offered x line.winner line.to line.level tables d.levels winners work
-    gets e o = subst (Offers x tables d.levels winners work) e o
-
-    -- nothing is offered
-    pub drawn_none : Drawn tail tables ins froms winners moves work d winners moves work
-    drawn_none = record { moved = moved_none e; piled = p.drainable.piled }
-
     -- x gets the line
     module _ {q m k low r : ℕ} {d₁ : Desk} {winners' moves' work' : List ℕ} (o : Offered x q m k tables d.levels winners work) (s : SteppedIn (length tables.priorities) x q m k low tables.priorities ins froms d winners moves work d₁ winners' moves' work' r) where
       moved : Moved tables ins froms winners moves work d₁ winners' moves' work'
@@ -87,14 +59,6 @@ module _
 
       pile : d₁.pile ≡ d.pile
       pile = elim (ℕ_discrete q (parity_of (get_or tables.priorities x 0))) [ yes h ↦ (s.kept h).only.pile | no h ↦ (s.turned h).pile ]
-
-      pub pushable : Pushable x d₁ tail
-      pushable =
-          record {
-            small = omega (arith, p.edge.from, e.standing.small);
-            laid = moved.engine.standing.laid;
-            within = p.drainable.piled.within;
-          }
 
       -- and goes on the pile
       pub drawn_one : {tail' : ℕ} {d₂ : Desk} → PushedOn x d₁ tail d₂ tail' → Drawn tail' tables ins froms winners moves work d₂ winners' moves' work'

@@ -6,8 +6,8 @@ ghost use Rattle.space.specs.parts.Desk.{desk_of};
 ghost use Rattle.draw.specs.parts.Drawing.{Drawable, Drawn, DrawVisitable};
 
 use game::vertex::wide;
-use offer::{Chance, offer};
-use pile::{Pile, larger, push};
+use offer::offer;
+use pile::{Pile, push};
 use step::step;
 use storage::Winner;
 
@@ -31,10 +31,9 @@ fn draw(
     requires { Drawable x u pile.tail (asked owners priorities starts targets) ins.now froms.now (desk_of desk.old) winners.old moves.old work.old }
     ensures { Drawn result.tail (lent owners priorities starts targets) ins.now froms.now winners.old moves.old work.old (desk_of desk.new) winners.new moves.new work.new }
 {
-    let offered = offer(
+    let Some(line) = offer(
         x, u, low, owners, priorities, starts, targets, desk, winners, work,
-    );
-    let Chance::Gets(line) = offered else {
+    ) else {
         return pile;
     };
     step(
@@ -43,7 +42,7 @@ fn draw(
     let above = priorities[x] as usize + 1;
     Pile {
         tail: push(x, desk, pile.tail),
-        top: larger(pile.top, above),
+        top: pile.top.max(above),
     }
 }
 
@@ -67,9 +66,7 @@ pub fn visit(
     ensures { Drawn result.tail (lent owners priorities starts targets) ins.now froms.now winners.old moves.old work.old (desk_of desk.new) winners.new moves.new work.new }
 {
     let mut drawn = pile;
-    let last = wide(ins[u + 1]);
-    let mut i = wide(ins[u]);
-    while i < last {
+    for i in wide(ins[u])..wide(ins[u + 1]) {
         drawn = draw(
             wide(froms[i]),
             u,
@@ -86,7 +83,6 @@ pub fn visit(
             moves,
             work,
         );
-        i += 1;
     }
     drawn
 }

@@ -1,24 +1,21 @@
 -- What a block holds, by place: its name, its payload, zeros; and that the bytes that are put are these.
 use Prim.Native.Nat.{ℕ, zero, suc, ◌+◌, ◌-◌, ◌*◌, ◌/◌, ◌%◌, ◌<◌, ◌≤◌, min}
-use mathlib.Core.Path.{◌≡◌, refl, ap, ap₂, sym, subst, ◌∙◌}
+use mathlib.Core.Path.{◌≡◌, refl, ap, sym, subst, ◌∙◌}
 use mathlib.Core.List.{List, []}
 use native.Mathlib.Omega.{arith}
 use borrow.Author.Tests.{lt-ltb, le-ltb}
-use lib.ListN.{length, get_or}
+use lib.ListN.{length}
 use Rattle.game.specs.promise.Tables.{Tables, tables_of, vertices}
-use Rattle.format.specs.promise.Format.{Filing, plain, low_high, vertex_blocks, kind_of, used_of, head_byte, vertex_byte, payload_byte, body_byte}
+use Rattle.format.specs.promise.Format.{Filing, plain, vertex_blocks, kind_of, used_of, head_byte, vertex_byte, payload_byte, body_byte}
 use Rattle.format.specs.parts.Put.{Put}
 use Rattle.format.proofs.Picks.{pick_true, pick_false}
-use Rattle.format.proofs.BlockKinds.{used_vertex, used_target}
+use Rattle.format.proofs.BlockKinds.{used_vertex}
 use Rattle.format.proofs.Puts.{put_as, put_upto}
-use Rattle.pieces.specs.parts.Pieces.{name_byte, head_at, vertex_at, target_at, zero_byte}
+use Rattle.pieces.specs.parts.Pieces.{name_byte, head_at, vertex_at, zero_byte}
 
--- so many vertices, or targets, fill so many bytes
+-- so many vertices fill so many bytes
 four_each : (n k : ℕ) → 4 * min 126 (n - 126 * k) ≡ min 504 (4 * n - 504 * k)
 four_each n k = omega arith
-
-two_each : (m k : ℕ) → 2 * min 252 (m - 252 * k) ≡ min 504 (2 * m - 504 * k)
-two_each m k = omega arith
 
 -- the header's bytes go by owners and targets alone, a vertex's by the three other tables
 head_by : (t : Tables) (k : ℕ) → head_byte (plain (tables_of t.owners [] [] t.targets)) k ≡ head_byte (plain t) k
@@ -68,13 +65,6 @@ module _ (f : Filing) where
       let e : suc b - 1 ≡ b = omega arith in
       ap (λ (x : ℕ). vertex_byte f.tables (126 * x + k / 4) (k % 4)) e ∙ sym (pick_true _ _ (lt-ltb b _ l))
 
-  payload_target : (b k : ℕ) → vertex_blocks n < b → low_high (get_or f.tables.targets (252 * (b - 1 - vertex_blocks n) + k / 2) 0) (k % 2) ≡ payload_byte f b k
-  payload_target zero k l = absurd (let z : ⊥ = omega arith in z)
-  payload_target (suc b) k l =
-      let e : suc b - 1 ≡ b = omega arith in
-      let h : vertex_blocks n ≤ b = omega arith in
-      ap (λ (x : ℕ). low_high (get_or f.tables.targets (252 * (x - vertex_blocks n) + k / 2) 0) (k % 2)) e ∙ sym (pick_false _ _ (le-ltb b _ h))
-
   -- so many bytes, said as those that the block uses
   used_put : {x y : List ℕ} {v : ℕ → ℕ} {u : ℕ} (b : ℕ) → u ≡ used_of n m b → ((k : ℕ) → v (6 + k) ≡ payload_byte f b k) → Put 6 (6 + u) v x y → Put 6 (6 + used_of n m b) (body_byte f b) x y
   used_put {v} b e same p =
@@ -105,17 +95,3 @@ module _ (t : Tables) (b : ℕ) where
 
         same : (k : ℕ) → vertex_at (tables_of t.owners t.priorities t.starts []) (126 * (b - 1)) (6 + k) ≡ payload_byte (plain t) b k
         same k = vertex_by t (126 * (b - 1) + (6 + k - 6) / 4) ((6 + k - 6) % 4) ∙ ap (λ (j : ℕ). vertex_byte t (126 * (b - 1) + j / 4) (j % 4)) (counted_on k) ∙ payload_vertex (plain t) b k some here
-
-    pub target_put : {x y : List ℕ} → blocks < b → Put 6 (6 + 2 * min 252 (length t.targets - 252 * (b - 1 - blocks))) (target_at t.targets (252 * (b - 1 - blocks))) x y → Put 6 (6 + used) (body_byte (plain t) b) x y
-    target_put l p = used_put (plain t) b filled same p
-      where
-        here : vertex_blocks (vertices t) < b
-        here = subst (λ (k : ℕ). k < b) all l
-
-        filled : 2 * min 252 (length t.targets - 252 * (b - 1 - blocks)) ≡ used
-        filled = two_each _ (b - 1 - blocks) ∙ ap (λ (v : ℕ). min 504 (2 * length t.targets - 504 * (b - 1 - v))) all ∙ sym (used_target _ _ b here)
-
-        same : (k : ℕ) → target_at t.targets (252 * (b - 1 - blocks)) (6 + k) ≡ payload_byte (plain t) b k
-        same k =
-            ap₂ (λ (v j : ℕ). low_high (get_or t.targets (252 * (b - 1 - v) + j / 2) 0) (j % 2)) all (counted_on k) ∙
-            payload_target (plain t) b k here

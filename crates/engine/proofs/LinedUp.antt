@@ -1,21 +1,18 @@
 -- Before the engine runs: the open vertices line up in section 3, which nothing of the state reads, and the levels are the priorities.
-use Prim.Native.Nat.{ℕ, ◌+◌, ◌-◌, ◌<◌, ◌≤◌}
+use Prim.Native.Nat.{ℕ, ◌-◌, ◌<◌}
 use mathlib.Core.Path.{◌≡◌, refl, sym, ap, subst, ◌∙◌}
 use mathlib.Core.List.{List}
-use native.Mathlib.Decide.{ℕ_discrete}
 use native.Mathlib.Omega.{arith}
-use native.Mathlib.Nat.{not-suc-le-zero}
-use lib.ListN.{get_or, set, replicate, get_or-replicate, length-replicate}
-use lib.Seq.{get_or-set_same, get_or-set_other}
+use lib.ListN.{get_or, replicate, get_or-replicate, length-replicate}
 use Rattle.game.specs.promise.Tables.{game_of, Tables, vertices}
 use Rattle.storage.specs.promise.Answer.{mark_of, move_of}
 use Rattle.justification.specs.parts.Safe.{Safe}
 use Rattle.lists.specs.parts.Cells.{Filled}
 use Rattle.space.specs.parts.Work.{nil}
-use Rattle.space.specs.parts.Desk.{Desk, desk_of, Laid, put_first}
-use Rattle.space.proofs.Desks.{cells_laid, laid_first, blank_waiting}
+use Rattle.space.specs.parts.Desk.{Desk, desk_of, Laid}
+use Rattle.space.proofs.Desks.{cells_laid, blank_waiting}
 use Rattle.waiting.specs.parts.Moves.{Fillable, FilledIn}
-use Rattle.levels.specs.parts.Levels.{settled_of, LevelRoom, ByPriority}
+use Rattle.levels.specs.parts.Levels.{settled_of, ByPriority}
 use Rattle.levels.proofs.Floors.{priority_levelled}
 use Rattle.step.specs.parts.State.{KeptSet}
 use Rattle.draw.specs.parts.Drawing.{Drainable}
@@ -36,23 +33,6 @@ pub record Emptying (d₀ d : Desk) (k : ℕ) : Type 0 where
   pub below : (j : ℕ) → j < k → get_or d.firsts j 0 ≡ nil
   pub waiting : d.waiting ≡ d₀.waiting
 
-pub emptying_none : {d : Desk} → Laid d → Emptying d d 0
-emptying_none l = record { laid = l; below = λ j h. absurd (not-suc-le-zero h); waiting = refl }
-
-pub emptying_more : {d₀ d d' : Desk} {k : ℕ} → Emptying d₀ d k → k < 256 → d' ≡ put_first k nil d → Emptying d₀ d' (k + 1)
-emptying_more {d₀} {d} {d'} {k} s l is =
-    record { laid = laid_first k nil is s.laid; below = λ j h. at j h (ℕ_discrete j k); waiting = ap (λ (x : Desk). x.waiting) is ∙ s.waiting }
-  where
-    firsts : d'.firsts ≡ set d.firsts k nil
-    firsts = ap (λ (x : Desk). x.firsts) is
-
-    at : (j : ℕ) → j < k + 1 → Dec (j ≡ k) → get_or d'.firsts j 0 ≡ nil
-    at j h (yes e) = ap (λ (x : List ℕ). get_or x j 0) firsts ∙ ap (λ (i : ℕ). get_or (set d.firsts k nil) i 0) e ∙ get_or-set_same d.firsts k nil 0 (omega (arith, s.laid.firsts_long))
-    at j h (no ne) = ap (λ (x : List ℕ). get_or x j 0) firsts ∙ get_or-set_other d.firsts k j nil 0 ne ∙ s.below j (omega arith)
-
-pub emptying_all : {d₀ d : Desk} {k : ℕ} → Emptying d₀ d k → 256 ≤ k → NoLines d₀ d
-emptying_all s l = record { laid = s.laid; empty = record { all = λ i h. s.below i (omega (arith, s.laid.firsts_long)) }; waiting = s.waiting }
-
 module _ {tables : Tables} {ins froms winners moves work : List ℕ} (s : Settleable tables ins froms winners moves work) where
   bytes : (v : ℕ) → v < vertices tables → get_or tables.priorities v 0 < 256
   bytes v l = omega (arith, s.state.well_formed.sound.ranked v l)
@@ -70,12 +50,6 @@ module _ {tables : Tables} {ins froms winners moves work : List ℕ} (s : Settle
       }
 
   module _ {d d' : Desk} {work' : List ℕ} (r : FilledIn (vertices tables) tables.priorities d work d' work') where
-    pub levels_room : LevelRoom tables.priorities d'
-    levels_room =
-        let few = s.state.well_formed.sound.few in
-        let level = s.state.well_formed.level in
-        record { small = omega arith; laid = r.lines_only.laid }
-
     -- a vertex is settled after as before
     same_settled : (v : ℕ) → settled_of (vertices tables) work' v ≡ settled_of (vertices tables) work v
     unfolding settled_of

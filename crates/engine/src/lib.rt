@@ -18,10 +18,8 @@ fn no_lines(desk: &mut [u16])
     requires { Laid (desk_of desk.old) }
     ensures { NoLines (desk_of desk.old) (desk_of desk.new) }
 {
-    let mut k: usize = 0;
-    while k < 256 {
+    for k in 0..256 {
         set_first(k, NONE, desk);
-        k += 1;
     }
 }
 

@@ -6,8 +6,7 @@ use native.Mathlib.Omega.{arith}
 use native.Mathlib.Decide.{ℕ_discrete, dec_lt}
 use lib.ListN.{length, get_or}
 use Rattle.refusal.specs.promise.Row.{Lowest, NoPlace}
-use Rattle.refusal.specs.declared.Found.{Found}
-use Rattle.refusal.specs.declared.Found.TheVariants.{At, Nowhere}
+use Rattle.std.specs.Prelude.{Option, Some, None}
 use Rattle.refusal.specs.parts.Found.{Finds, Scanned}
 use Rattle.refusal.proofs.Scans.{scan_more, found_at, found_nowhere}
 use Rattle.game.specs.promise.Tables.{next_of, Placed}
@@ -44,7 +43,7 @@ module _ (n : ℕ) (starts targets : List ℕ) (p : Placed n starts targets) whe
           omega (arith, f.place)
 
   -- r is the stretch of v, and the scan of it found i: the place in the targets is the lowest, and lies within them
-  module _ (v i x : ℕ) (r : List ℕ) (f : Found) (l : v < n) (e : r ≡ next_of starts targets v) (at : f ≡ At i) (d : Finds (Descent r) f) (start : x ≡ get_or starts v 0) where
+  module _ (v i x : ℕ) (r : List ℕ) (f : Option ℕ) (l : v < n) (e : r ≡ next_of starts targets v) (at : f ≡ Some i) (d : Finds (Descent r) f) (start : x ≡ get_or starts v 0) where
     low : Lowest (Descent (next_of starts targets v)) i
     low = subst (λ (k : List ℕ). Lowest (Descent k) i) e (found_at (Descent r) at d)
 
@@ -54,7 +53,7 @@ module _ (n : ℕ) (starts targets : List ℕ) (p : Placed n starts targets) whe
     pub order_within : x + i < length targets
     order_within = rw start (stretch_place starts targets v i low.holds.within)
 
-pub order_more : (starts targets : List ℕ) (v : ℕ) (r : List ℕ) (f : Found) → r ≡ next_of starts targets v → f ≡ Nowhere → Finds (Descent r) f → Scanned (Unordered starts targets) v → Scanned (Unordered starts targets) (v + 1)
+pub order_more : (starts targets : List ℕ) (v : ℕ) (r : List ℕ) (f : Option ℕ) → r ≡ next_of starts targets v → f ≡ None → Finds (Descent r) f → Scanned (Unordered starts targets) v → Scanned (Unordered starts targets) (v + 1)
 order_more starts targets v r f e none d s =
     scan_more s (λ u. found_nowhere (Descent r) none d u.at (subst (λ (k : List ℕ). Descent k u.at) (sym e) u.descent))
 

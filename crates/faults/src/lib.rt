@@ -10,136 +10,91 @@ ghost use Rattle.game.specs.promise.Lent.{lent};
 use game::vertex::{successors, wide};
 use game::{EDGES, VERTICES};
 use player::Player;
-use refusal::Found;
 
 // 1: the lengths.
-pub fn sizes(owners: &[u8], priorities: &[u8], starts: &[u16], targets: &[u16]) -> Found
+pub fn sizes(owners: &[u8], priorities: &[u8], starts: &[u16], targets: &[u16]) -> Option<usize>
     ensures { Finds (Fault1 (lent owners priorities starts targets)) result }
 {
     let n = owners.len();
-    if n == 0 {
-        return Found::At(0);
-    }
-    if n > VERTICES {
-        return Found::At(0);
-    }
-    if priorities.len() != n {
-        return Found::At(0);
-    }
-    if starts.len() != n + 1 {
-        return Found::At(0);
-    }
-    if targets.len() > EDGES {
-        return Found::At(0);
-    }
-    Found::Nowhere
+    let fit = (1..=VERTICES).contains(&n)
+        && priorities.len() == n
+        && starts.len() == n + 1
+        && targets.len() <= EDGES;
+    (!fit).then_some(0)
 }
 
 // 2: an owner that is no player.
-pub fn owner(owners: &[u8]) -> Found
+pub fn owner(owners: &[u8]) -> Option<usize>
     ensures { Finds (Fault2 owners.now) result }
 {
-    let mut v = 0;
-    while v < owners.len() {
-        if owners[v] > Player::ODD.bit {
-            return Found::At(v);
-        }
-        v += 1;
-    }
-    Found::Nowhere
+    owners
+        .iter()
+        .position(|&owner| Player::try_from(owner).is_err())
 }
 
 // 3: a priority of 255.
-pub fn priority(priorities: &[u8]) -> Found
+pub fn priority(priorities: &[u8]) -> Option<usize>
     ensures { Finds (Fault3 priorities.now) result }
 {
-    let mut v = 0;
-    while v < priorities.len() {
-        if priorities[v] == 255 {
-            return Found::At(v);
-        }
-        v += 1;
-    }
-    Found::Nowhere
+    priorities.iter().position(|&priority| priority == 255)
 }
 
 // 4: starts that do not cut the targets into stretches.
-pub fn start(starts: &[u16], targets: &[u16]) -> Found
+pub fn start(starts: &[u16], targets: &[u16]) -> Option<usize>
     requires { 0 < length starts.now }
     ensures { Finds (Fault4 starts.now targets.now) result }
 {
     if starts[0] != 0 {
-        return Found::At(0);
+        return Some(0);
     }
-    let mut v = 1;
-    while v < starts.len() {
+    for v in 1..starts.len() {
         if starts[v] < starts[v - 1] {
-            return Found::At(v);
+            return Some(v);
         }
-        v += 1;
     }
     let last = starts.len() - 1;
     if wide(starts[last]) != targets.len() {
-        return Found::At(last);
+        return Some(last);
     }
-    Found::Nowhere
+    None
 }
 
 // 5: a vertex with no successor.
-pub fn stuck(n: usize, starts: &[u16], targets: &[u16]) -> Found
+pub fn stuck(n: usize, starts: &[u16], targets: &[u16]) -> Option<usize>
     requires { Placed n starts.now targets.now }
     ensures { Finds (Fault5 n starts.now targets.now) result }
 {
-    let mut v = 0;
-    while v < n {
-        if successors(starts, targets, v).len() == 0 {
-            return Found::At(v);
+    for v in 0..n {
+        if successors(starts, targets, v).is_empty() {
+            return Some(v);
         }
-        v += 1;
     }
-    Found::Nowhere
+    None
 }
 
 // 6: a target that is no vertex.
-pub fn target(n: usize, targets: &[u16]) -> Found
+pub fn target(n: usize, targets: &[u16]) -> Option<usize>
     ensures { Finds (Fault6 n targets.now) result }
 {
-    let mut e = 0;
-    while e < targets.len() {
-        if wide(targets[e]) >= n {
-            return Found::At(e);
-        }
-        e += 1;
-    }
-    Found::Nowhere
+    targets.iter().position(|&target| wide(target) >= n)
 }
 
 // The first number of a stretch that is not above the one before it.
-fn descent(stretch: &[u16]) -> Found
+fn descent(stretch: &[u16]) -> Option<usize>
     ensures { Finds (Descent stretch.now) result }
 {
-    let mut i = 1;
-    while i < stretch.len() {
-        if stretch[i] <= stretch[i - 1] {
-            return Found::At(i);
-        }
-        i += 1;
-    }
-    Found::Nowhere
+    (1..stretch.len()).find(|&i| stretch[i] <= stretch[i - 1])
 }
 
 // 7: a stretch that does not ascend.
-pub fn order(n: usize, starts: &[u16], targets: &[u16]) -> Found
+pub fn order(n: usize, starts: &[u16], targets: &[u16]) -> Option<usize>
     requires { Placed n starts.now targets.now }
     ensures { Finds (Fault7 n starts.now targets.now) result }
 {
-    let mut v = 0;
-    while v < n {
-        let found = descent(successors(starts, targets, v));
-        if let Found::At(i) = found {
-            return Found::At(wide(starts[v]) + i);
+    for v in 0..n {
+        if let Some(i) = descent(successors(starts, targets, v)) {
+            return Some(wide(starts[v]) + i);
         }
-        v += 1;
     }
-    Found::Nowhere
+    None
 }

@@ -5,17 +5,7 @@ use mathlib.Core.Bool.{Bool}
 use native.Mathlib.Omega.{arith}
 use native.Mathlib.Decide.{ℕ_discrete, dec_le}
 use borrow.Author.Tests.{lt-ltb, le-ltb}
-use Rattle.format.specs.promise.Format.{pick, kind_of, used_of, vertex_blocks}
-
-pub kind_vertex : (n b : ℕ) → ¬ (b ≡ 0) → b ≤ vertex_blocks n → kind_of n b ≡ 2
-kind_vertex n zero some l = absurd (some refl)
-kind_vertex n (suc b) some l = ap (λ (t : Bool). pick t 2 3) (lt-ltb b (vertex_blocks n) l)
-
-pub kind_target : (n b : ℕ) → vertex_blocks n < b → kind_of n b ≡ 3
-kind_target n zero l = absurd (let z : ⊥ = omega arith in z)
-kind_target n (suc b) l =
-    let k : vertex_blocks n ≤ b = omega arith in
-    ap (λ (t : Bool). pick t 2 3) (le-ltb b (vertex_blocks n) k)
+use Rattle.format.specs.promise.Format.{pick, used_of, vertex_blocks}
 
 pub used_vertex : (n m b : ℕ) → ¬ (b ≡ 0) → b ≤ vertex_blocks n → used_of n m b ≡ min 504 (4 * n - 504 * (b - 1))
 used_vertex n m zero some l = absurd (some refl)

@@ -2,7 +2,6 @@
 pub mod Picks
 pub mod BlockKinds
 pub mod FileOf
-pub mod Weights
 pub mod Puts
 pub mod HeadTests
 pub mod InTurn

@@ -1,15 +1,14 @@
 -- Bytes put from the front on: one, then more, until all are there.
-use Prim.Native.Nat.{ℕ, ◌+◌, ◌-◌, ◌/◌, ◌%◌, ◌<◌, ◌≤◌}
-use mathlib.Core.Path.{◌≡◌, refl, ap, subst, ◌∙◌}
+use Prim.Native.Nat.{ℕ, ◌+◌, ◌<◌, ◌≤◌}
+use mathlib.Core.Path.{◌≡◌, refl, subst, ◌∙◌}
 use mathlib.Core.List.{List}
 use native.Mathlib.Omega.{arith}
 use native.Mathlib.Decide.{dec_lt}
 use native.Mathlib.Nat.{not-suc-le-zero}
 use lib.ListN.{length, set, length-set}
-use lib.Seq.{get_or-set_other, lt-length-set}
+use lib.Seq.{get_or-set_other}
 use Rattle.lists.proofs.Stores.{at_set}
-use Rattle.format.specs.promise.Format.{low_high}
-use Rattle.format.specs.parts.Put.{Put, Begun, word_byte}
+use Rattle.format.specs.parts.Put.{Put, Begun}
 
 -- nothing is put
 pub put_none : (a : ℕ) (value : ℕ → ℕ) (l : List ℕ) → Put a a value l l
@@ -42,16 +41,6 @@ put_as p same = record { long = p.long; is = λ i m n. p.is i m n ∙ same i m n
 -- the same end, said otherwise
 pub put_upto : {a b c : ℕ} {value : ℕ → ℕ} {x y : List ℕ} → b ≡ c → Put a b value x y → Put a c value x y
 put_upto {a} {value} {x} {y} e p = subst (λ (k : ℕ). Put a k value x y) e p
-
--- two bytes are stored, the low one first
-pub put_word : (l : List ℕ) (at x : ℕ) → at + 1 < length l → Put at (at + 2) (word_byte x at) l (set (set l at (x % 256)) (at + 1) (x / 256))
-put_word l at x w =
-    let low : 0 ≡ at - at = omega arith in
-    let high : 1 ≡ at + 1 - at = omega arith in
-    let one = put_one l at (x % 256) (word_byte x at) (omega arith) (ap (low_high x) low) in
-    let two = put_one (set l at (x % 256)) (at + 1) (x / 256) (word_byte x at) (lt-length-set l at (x % 256) w) (ap (low_high x) high) in
-    let end : at + 1 + 1 ≡ at + 2 = omega arith in
-    put_upto end (put_then (omega arith) (omega arith) one two)
 
 pub begun_none : {size : ℕ} {value : ℕ → ℕ} {l : List ℕ} → length l ≡ size → Begun size value 0 l
 begun_none e = record { long = e; is = λ i m. absurd (not-suc-le-zero m) }

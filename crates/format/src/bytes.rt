@@ -9,15 +9,16 @@ pub fn word(file: &[u8], at: usize) -> u16
     requires { at + 1 < length file.now }
     ensures { result ≡ word_at file.now at }
 {
-    (file[at] as u16) + 256 * (file[at + 1] as u16)
+    u16::from_le_bytes([file[at], file[at + 1]])
 }
 
 pub fn set_word(part: &mut [u8], at: usize, x: u16)
     requires { at + 1 < length part.old }
     ensures { Put at (at + 2) (word_byte x at) part.old part.new }
 {
-    part[at] = (x % 256) as u8;
-    part[at + 1] = (x / 256) as u8;
+    let [low, high] = x.to_le_bytes();
+    part[at] = low;
+    part[at + 1] = high;
 }
 
 pub fn vertices(file: &[u8]) -> usize

@@ -10,10 +10,8 @@ fn weigh(file: &[u8], from: usize) -> usize
     ensures { Weighed file.now from result }
 {
     let mut sum: usize = 0;
-    let mut i: usize = 0;
-    while i < 510 {
-        sum += (i + 1) * (file[from + i] as usize);
-        i += 1;
+    for i in 0..510 {
+        sum += (i + 1) * file[from + i] as usize;
     }
     sum
 }

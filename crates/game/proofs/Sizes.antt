@@ -9,7 +9,7 @@ use native.Mathlib.Decide.{ℕ_discrete, dec_lt}
 use lib.ListN.{length}
 use Rattle.refusal.specs.promise.Row.{NoPlace, Lowest}
 use Rattle.refusal.specs.parts.Found.{Finds}
-use Rattle.refusal.specs.declared.Found.TheVariants.{Nowhere}
+use Rattle.std.specs.Prelude.{None as nothing}
 use Rattle.game.specs.promise.Tables.{Tables, vertices}
 use Rattle.game.specs.promise.Faults.{Fault1, no_vertex, over_2048, differ, not-n+1, over_16384}
 use Rattle.game.specs.promise.Lent.{Sized, Fit, Fault8}
@@ -56,7 +56,7 @@ fit_of_none l none = elim (fit_or_not l) [ yes f ↦ f | no h ↦ absurd (none 0
 
 -- One list more: row 8 as it was found, or found anew.
 
-pub no_lists : Finds (Fault8 []) Nowhere
+pub no_lists : Finds (Fault8 []) nothing
 no_lists x h = h.unfit tt
 
 pub unfit_before : (l : List Sized) (s : Sized) (x : ℕ) → Lowest (Fault8 l) x → Lowest (Fault8 (s ∷ l)) x

@@ -8,18 +8,18 @@ ghost use Rattle.housefile.specs.promise.Faults.{lent_lengths};
 ghost use Rattle.housefile.specs.promise.Reading.{Reads, read_said};
 ghost use Rattle.housefile.specs.parts.Storing.{SameLengths, Stored};
 
-use crate::{Header, Read, copy};
+use crate::Header;
 use format::bytes;
 use game::buffers::compare;
 use game::{EDGES, VERTICES};
 use loading::judge::judge;
-use refusal::{Found, Kind, Tested, or};
+use refusal::{Kind, Refusal, refuse};
 
 // 8: the lengths of the lent tables.
-fn lengths(owners: usize, priorities: usize, starts: usize, targets: usize) -> Found
+fn lengths(owners: usize, priorities: usize, starts: usize, targets: usize) -> Option<usize>
     ensures { Finds (Fault8 (lent_lengths owners priorities starts targets)) result }
 {
-    let edges = compare(Found::Nowhere, targets, EDGES);
+    let edges = compare(None, targets, EDGES);
     let bounds = compare(edges, starts, 2049);
     let ranks = compare(bounds, priorities, VERTICES);
     compare(ranks, owners, VERTICES)
@@ -39,10 +39,10 @@ fn store(
     requires { SameLengths (asked own ranks bounds ends) (tables_of owners.old priorities.old starts.old targets.old) }
     ensures { Stored (lent own ranks bounds ends) (written owners priorities starts targets) }
 {
-    copy::bytes(own, owners);
-    copy::bytes(ranks, priorities);
-    copy::words(bounds, starts);
-    copy::words(ends, targets);
+    owners.copy_from_slice(own);
+    priorities.copy_from_slice(ranks);
+    starts.copy_from_slice(bounds);
+    targets.copy_from_slice(ends);
 }
 
 // What is said of a file that is read.
@@ -63,21 +63,20 @@ pub fn read(
     priorities: &mut [u8],
     starts: &mut [u16],
     targets: &mut [u16],
-) -> Read
+) -> Result<Header, Refusal>
     ensures { Reads file.now (tables_of owners.old priorities.old starts.old targets.old) (written owners priorities starts targets) (read_said result) }
 {
     let mut own = [0u8; VERTICES];
     let mut ranks = [0u8; VERTICES];
     let mut bounds = [0u16; 2049];
     let mut ends = [0u16; EDGES];
-    let judged = judge(file, &mut own, &mut ranks, &mut bounds, &mut ends);
-    let lengths = lengths(owners.len(), priorities.len(), starts.len(), targets.len());
-    let tested = or(judged, lengths, Kind::Buffer);
-    if let Tested::Refused(r) = tested {
-        return Read::Refused(r);
-    }
+    judge(file, &mut own, &mut ranks, &mut bounds, &mut ends)?;
+    refuse(
+        lengths(owners.len(), priorities.len(), starts.len(), targets.len()),
+        Kind::Buffer,
+    )?;
     store(
         &own, &ranks, &bounds, &ends, owners, priorities, starts, targets,
     );
-    Read::Game(header(file))
+    Ok(header(file))
 }

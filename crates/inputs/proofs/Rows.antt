@@ -6,13 +6,15 @@ use mathlib.Core.Logic.{inl, inr}
 use mathlib.Core.List.{List, [], ◌∷◌, ◌++◌}
 use native.Mathlib.Decide.{ℕ_discrete}
 use native.Mathlib.Omega.{arith}
-use Rattle.refusal.specs.promise.Row.{Row, row, None, First}
-use Rattle.refusal.specs.promise.Number.{number_of}
-use Rattle.refusal.specs.declared.Kind.{Kind}
+use Rattle.std.specs.Prelude.{Result, Ok, Err, MatchResult}
+use Rattle.std.specs.Result.{IsErrAnd}
+use Rattle.refusal.specs.promise.Row.{Row, row, None, First, Gives}
+use Rattle.refusal.specs.promise.Number.{number_of, tested_said}
 use Rattle.refusal.specs.declared.Kind.TheVariants.{Game, Second}
 use Rattle.refusal.specs.declared.TableFault.{TableFault}
-use Rattle.refusal.proofs.Rows.{none_append, none_left, none_right, first_left, first_right, first_number}
-use Rattle.game.specs.promise.Tables.{vertices}
+use Rattle.refusal.specs.declared.Refusal.{Refusal}
+use Rattle.refusal.proofs.Rows.{none_append, none_left, none_right, first_number}
+use Rattle.game.specs.promise.Tables.{Tables, vertices}
 use Rattle.game.specs.promise.Faults.{table_rows}
 use Rattle.game.specs.promise.Lent.{Fit, Fault8}
 use Rattle.storage.specs.promise.Lent.{Lent, Judging}
@@ -34,6 +36,27 @@ none_second (r ∷ rows) n = (n.0, none_second rows n.1)
 second_none : (rows : List Row) → None (second_rows rows) → None rows
 second_none [] n = tt
 second_none (r ∷ rows) n = (n.0, second_none rows n.1)
+
+-- r is the refusal q of a game's tables, as one of the second game's
+pub record Shifted (q r : Refusal) : Type 0 where
+  pub kind : (f : TableFault) → q.kind ≡ Game f → r.kind ≡ Second f
+  pub place : r.place ≡ q.place
+
+-- it is the first of the second game's rows
+refused_second : (t : Tables) (q r : Refusal) → First (table_rows t) (number_of q.kind) q.place → Shifted q r → First (second_rows (table_rows t)) (number_of r.kind) r.place
+refused_second t q r f s =
+    let low : number_of q.kind < 8 = first_number (λ (m : ℕ). m < 8) (table_rows t) (number_of q.kind) q.place (omega arith) f in
+    let there = first_second (table_rows t) (number_of q.kind) q.place f in
+    subst (λ (m : ℕ). First (second_rows (table_rows t)) m r.place) (sym (second_number q.kind r.kind s.kind low))
+    (subst (λ (x : ℕ). First (second_rows (table_rows t)) (20 + number_of q.kind) x) (sym s.place) there)
+
+-- so what is said of the second game's tables is what is said of them as a first game's, each refusal shifted
+pub second_said :
+    (t : Tables) (P : Refusal → Refusal → Type 0) (a b : Result Unit Refusal) → ((q r : Refusal) → P q r → Shifted q r) → Gives (table_rows t) (tested_said a) →
+    MatchResult a (λ u. b ≡ Ok u) (λ q. IsErrAnd b (P q)) → Gives (second_rows (table_rows t)) (tested_said b)
+second_said t P (Ok u) b shift g m = subst (λ (r : Result Unit Refusal). Gives (second_rows (table_rows t)) (tested_said r)) (sym m) (none_second (table_rows t) g)
+second_said t P (Err q) (Ok u) shift g m = absurd m
+second_said t P (Err q) (Err r) shift g m = refused_second t q r g (shift q r m)
 
 module _ (i : Input) (l : Lent) where
   abbrev pub games : List Row
@@ -64,16 +87,6 @@ module _ (i : Input) (l : Lent) where
   none_of_free f =
       none_append games sizes (none_append (table_rows i.first) (second_rows (table_rows i.second)) f.first (none_second (table_rows i.second) f.second))
       ((λ x h. h.differ f.size), (none_of_fit _ f.fit, tt))
-
-  -- a fault of the second game, its kind shifted
-  pub refused_second :
-      {k r : Kind} {x : ℕ} → None (table_rows i.first) → ((f : TableFault) → k ≡ Game f → r ≡ Second f) →
-      First (table_rows i.second) (number_of k) x → First (test_rows i l) (number_of r) x
-  refused_second {k} {r} {x} n h f =
-      let rows2 = table_rows i.second in
-      let low : number_of k < 8 = first_number (λ (m : ℕ). m < 8) rows2 (number_of k) x (omega arith) f in
-      let there = first_right (table_rows i.first) (second_rows rows2) (20 + number_of k) x n (first_second rows2 (number_of k) x f) in
-      subst (λ (m : ℕ). First (test_rows i l) m x) (sym (second_number k r h low)) (first_left games sizes (20 + number_of k) x there)
 
   -- none of these rows judges the answer
   pub not_judging : {k x : ℕ} → First (test_rows i l) k x → Judging k → ⊥

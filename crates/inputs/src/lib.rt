@@ -3,37 +3,52 @@
 
 ghost use Rattle.std.specs.Prelude.{◌≡◌};
 ghost use Rattle.refusal.specs.promise.Row.{Gives};
-ghost use Rattle.refusal.specs.parts.Found.{Finds, tested_said};
+ghost use Rattle.refusal.specs.parts.Found.{Finds};
+ghost use Rattle.refusal.specs.promise.Number.{tested_said};
 ghost use Rattle.refusal.specs.declared.TableFault.{TableFault};
+ghost use Rattle.game.specs.promise.Faults.{table_rows};
 ghost use Rattle.game.specs.promise.Lent.{lent};
 ghost use Rattle.storage.specs.promise.Lent.{claimed};
-ghost use Rattle.inputs.specs.promise.Inputs.{Fault9, input_of, test_rows};
+ghost use Rattle.inputs.specs.promise.Inputs.{Fault9, input_of, second_rows, test_rows};
 
 use game::buffers::compare;
-use refusal::{Found, Kind, Refusal, Tested, or};
+use refusal::{Kind, Refusal, refuse};
 use storage::Winner;
 use storage::answer::cells;
 use storage::lent::lengths;
 use tables::test_tables;
 
-// The same fault in the second game.
-fn second(kind: Kind) -> Kind
-    ensures { (f : TableFault) → kind ≡ Kind.Game f → result ≡ Kind.Second f }
+// A refusal of a game's tables as one of the second game's.
+fn in_second(refusal: Refusal) -> Refusal
+    ensures kind { (f : TableFault) → refusal.kind ≡ Kind.Game f → result.kind ≡ Kind.Second f }
+    ensures place { result.place ≡ refusal.place }
 {
-    if let Kind::Game(fault) = kind {
-        return Kind::Second(fault);
+    match refusal.kind {
+        Kind::Game(fault) => Refusal {
+            kind: Kind::Second(fault),
+            place: refusal.place,
+        },
+        _ => refusal,
     }
-    kind
+}
+
+// 21 to 27: the second game's tables.
+fn test_second(
+    owners: &[u8],
+    priorities: &[u8],
+    starts: &[u16],
+    targets: &[u16],
+) -> Result<(), Refusal>
+    ensures { Gives (second_rows (table_rows (lent owners priorities starts targets))) (tested_said result) }
+{
+    test_tables(owners, priorities, starts, targets).map_err(in_second)
 }
 
 // 9: the games differ in their numbers of vertices.
-fn same_size(n: usize, m: usize) -> Found
+fn same_size(n: usize, m: usize) -> Option<usize>
     ensures { Finds (Fault9 n m) result }
 {
-    if n != m {
-        return Found::At(0);
-    }
-    Found::Nowhere
+    (n != m).then_some(0)
 }
 
 // The first of 1 to 7, 21 to 27, 9 and 8 that applies, or that none does.
@@ -51,30 +66,14 @@ pub fn test_input(
     winners: &[Winner],
     moves: &[u16],
     work: &[u16],
-) -> Tested
+) -> Result<(), Refusal>
     ensures { Gives (test_rows (input_of (lent owners priorities starts targets) (lent owners2 priorities2 starts2 targets2) (claimed old_winners old_moves)) (record { answer = claimed winners moves; work = work.now })) (tested_said result) }
 {
     let n = owners.len();
-    let first = test_tables(owners, priorities, starts, targets);
-    if let Tested::Refused(r) = first {
-        return Tested::Refused(r);
-    }
-    let amended = test_tables(owners2, priorities2, starts2, targets2);
-    if let Tested::Refused(r) = amended {
-        let kind = r.kind;
-        let place = r.place;
-        return Tested::Refused(Refusal {
-            kind: second(kind),
-            place,
-        });
-    }
-    let sizes = same_size(n, owners2.len());
-    let nine = or(Tested::Passed, sizes, Kind::Vertices);
+    test_tables(owners, priorities, starts, targets)?;
+    test_second(owners2, priorities2, starts2, targets2)?;
+    refuse(same_size(n, owners2.len()), Kind::Vertices)?;
     let lent = lengths(n, winners.len(), moves.len(), work.len());
     let moved = compare(lent, old_moves.len(), n);
-    or(
-        nine,
-        compare(moved, old_winners.len(), cells(n)),
-        Kind::Buffer,
-    )
+    refuse(compare(moved, old_winners.len(), cells(n)), Kind::Buffer)
 }

@@ -5,16 +5,15 @@ use mathlib.Core.Logic.{◌≢◌}
 use mathlib.Core.List.{List}
 use native.Mathlib.Decide.{ℕ_discrete}
 use native.Mathlib.Omega.{arith}
-use native.Mathlib.Nat.{not-suc-le-zero}
 use lib.ListN.{length, get_or, set}
 use lib.Seq.{get_or-set_same, get_or-set_other}
 use Rattle.game.specs.promise.Game.{Game}
 use Rattle.justification.specs.parts.Safe.{Safe, Above, Levelled}
 use Rattle.justification.proofs.Eligible.{open_above, safe_above}
-use Rattle.space.specs.parts.Work.{section, Cell}
+use Rattle.space.specs.parts.Work.{section}
 use Rattle.space.specs.parts.Desk.{Desk, Laid, put_level}
 use Rattle.space.proofs.Desks.{laid_level}
-use Rattle.levels.specs.parts.Levels.{settled_of, level_of, LevelSet, LevelsOnly, Seen, FloorOf, ByPriority}
+use Rattle.levels.specs.parts.Levels.{settled_of, level_of, LevelSet, LevelsOnly, FloorOf, ByPriority}
 use Rattle.levels.proofs.Flags.{flag_settled, settled_flag}
 
 -- a level is written on the desk
@@ -51,10 +50,6 @@ levels_more x y =
       pile = y.pile ∙ x.pile;
     }
 
--- a vertex that is seen has its cells
-pub seen_cell : {t : ℕ} {priorities : List ℕ} {d : Desk} {work : List ℕ} → Seen t priorities d work → Cell (length priorities) t work
-seen_cell p = record { small = p.small; long = p.work_long; within = p.vertex }
-
 -- the two branches of `floor`
 module _ {t x : ℕ} {priorities levels work : List ℕ} (is : x ≡ get_or (section 0 (length priorities) work) t 0) where
   pub floor_settled : {r : ℕ} → x ≡ 0 → r ≡ get_or levels t 0 → FloorOf t priorities levels work r
@@ -83,9 +78,6 @@ pub record Levelling (priorities : List ℕ) (d₀ d : Desk) (v : ℕ) : Type 0 
   pub only : LevelsOnly d₀ d
   pub level : (u : ℕ) → u < v → level_of d.levels u ≡ get_or priorities u 0
 
-pub levelling_none : {priorities : List ℕ} {d : Desk} → Laid d → Levelling priorities d d 0
-levelling_none l = record { only = levels_none l; level = λ u l. absurd (not-suc-le-zero l) }
-
 pub levelling_more : {priorities : List ℕ} {d₀ d d' : Desk} {v x : ℕ} → Levelling priorities d₀ d v → x ≡ get_or priorities v 0 → v < 2048 → d' ≡ put_level v x d → Levelling priorities d₀ d' (v + 1)
 levelling_more {priorities} {d₀} {d} {d'} {v} {x} s e l is =
     record {
@@ -95,9 +87,6 @@ levelling_more {priorities} {d₀} {d} {d'} {v} {x} s e l is =
   where
     y : LevelSet d.levels d'.levels v x
     y = level_set v x is s.only.laid l
-
-pub levelling_all : {priorities : List ℕ} {d₀ d : Desk} {v : ℕ} → Levelling priorities d₀ d v → length priorities ≤ v → ByPriority priorities d₀ d
-levelling_all s l = record { only = s.only; level = λ u h. s.level u (omega arith) }
 
 -- a safe state is levelled by its priorities
 pub priority_levelled :

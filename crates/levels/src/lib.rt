@@ -23,9 +23,7 @@ pub fn by_priority(priorities: &[u8], desk: &mut [u16])
     requires { LevelRoom priorities.now (desk_of desk.old) }
     ensures { ByPriority priorities.now (desk_of desk.old) (desk_of desk.new) }
 {
-    let mut v = 0;
-    while v < priorities.len() {
-        set_level(v, priorities[v] as u16, desk);
-        v += 1;
+    for (v, &priority) in priorities.iter().enumerate() {
+        set_level(v, priority as u16, desk);
     }
 }

@@ -13,8 +13,7 @@ use Rattle.game.specs.parts.Stretch.{Stretch}
 use Rattle.storage.specs.promise.Answer.{mark_room, mark_of}
 use Rattle.storage.specs.parts.Answers.{FirstFor, MarkedFor, Chooses}
 use Rattle.storage.proofs.Stores.{has_room}
-use Rattle.storage.specs.declared.vertex.Choice.{Choice}
-use Rattle.storage.specs.declared.vertex.Choice.TheVariants.{To, Nobody}
+use Rattle.std.specs.Prelude.{Option, Some, None}
 use Rattle.game.proofs.Starts.{stretch_of}
 use Rattle.refusal.specs.promise.Row.{NoPlace}
 use Rattle.winning.specs.promise.Answer.{no_move}
@@ -68,11 +67,16 @@ module _ {v : ℕ} {tables : Tables} {winners : List ℕ} (p : Testable v tables
           let his : mark_of winners w ≢ get_or tables.owners v 0 = λ h. none e.listed.at (record { within = e.listed.within; his = ap (mark_of winners) e.listed.is ∙ h }) in
           omega (arith, owned, p.player w e.to)
 
-  pub chosen : {r : List ℕ} {k : Choice} {w : ℕ} → r ≡ next_of tables.starts tables.targets v → k ≡ To w → Chooses (get_or tables.owners v 0) (mark_of winners) r k → TestedBy v tables winners (get_or tables.owners v 0) w
-  chosen {r} {k} {w} er ek h =
-      found (subst (λ (l : List ℕ). FirstFor (get_or tables.owners v 0) (mark_of winners) l w) er (subst (Chooses (get_or tables.owners v 0) (mark_of winners) r) ek h))
+  -- what the one-vertex test said for v's owner o, and the line's winner q
+  module _ {o : ℕ} {r : List ℕ} (eo : o ≡ get_or tables.owners v 0) (er : r ≡ next_of tables.starts tables.targets v) where
+    at_game : (k : Option ℕ) → Chooses o (mark_of winners) r k → Chooses (get_or tables.owners v 0) (mark_of winners) (next_of tables.starts tables.targets v) k
+    at_game k h =
+        subst (λ (l : List ℕ). Chooses (get_or tables.owners v 0) (mark_of winners) l k) er (subst (λ (x : ℕ). Chooses x (mark_of winners) r k) eo h)
 
-  pub nobody : {r : List ℕ} {k : Choice} {q : ℕ} → r ≡ next_of tables.starts tables.targets v → k ≡ Nobody → q ≡ opponent_of (get_or tables.owners v 0) → Chooses (get_or tables.owners v 0) (mark_of winners) r k → TestedBy v tables winners q no_move
-  nobody {r} {k} {q} er ek eq h =
-      subst (λ (x : ℕ). TestedBy v tables winners x no_move) (sym eq)
-      (missing (subst (λ (l : List ℕ). NoPlace (MarkedFor (get_or tables.owners v 0) (mark_of winners) l)) er (subst (Chooses (get_or tables.owners v 0) (mark_of winners) r) ek h)))
+    pub chosen : {k : Option ℕ} {q w : ℕ} → k ≡ Some w → q ≡ o → Chooses o (mark_of winners) r k → TestedBy v tables winners q w
+    chosen {k} {q} {w} ek eq h =
+        subst (λ (x : ℕ). TestedBy v tables winners x w) (sym (eq ∙ eo)) (found (subst (Chooses (get_or tables.owners v 0) (mark_of winners) (next_of tables.starts tables.targets v)) ek (at_game k h)))
+
+    pub nobody : {k : Option ℕ} {q : ℕ} → k ≡ None → q ≡ opponent_of o → Chooses o (mark_of winners) r k → TestedBy v tables winners q no_move
+    nobody {k} {q} ek eq h =
+        subst (λ (x : ℕ). TestedBy v tables winners x no_move) (sym (eq ∙ ap opponent_of eo)) (missing (subst (Chooses (get_or tables.owners v 0) (mark_of winners) (next_of tables.starts tables.targets v)) ek (at_game k h)))

@@ -6,13 +6,12 @@ ghost use Rattle.game.specs.promise.Lent.{asked, lent};
 ghost use Rattle.line.specs.parts.Testing.{Testable, TestedBy};
 
 use game::NONE;
-use game::vertex::successors;
-use player::Player;
+use game::vertex::{owner, successors};
 use storage::Winner;
-use storage::vertex::{Choice, test_vertex};
+use storage::vertex::test_vertex;
 
 // A line that a vertex may get: who wins it, his move, 65,535 where he does not own it, and a level.
-#[derive(Drop)]
+#[derive(Clone, Copy, Debug, PartialEq, Eq)]
 pub struct Line {
     pub winner: u8,
     pub to: u16,
@@ -32,21 +31,18 @@ pub fn test(
     ensures tested { TestedBy v (lent owners priorities starts targets) winners.now result.winner result.to }
     ensures level { result.level ≡ get_or priorities.now v 0 }
 {
-    let bit = owners[v];
-    let owner = Player { bit };
+    let owner = owner(owners, v);
     let level = priorities[v] as u16;
-    let choice = test_vertex(owner, successors(starts, targets, v), winners);
-    if let Choice::To(w) = choice {
-        return Line {
-            winner: owner.bit,
+    match test_vertex(owner, successors(starts, targets, v), winners) {
+        Some(w) => Line {
+            winner: u8::from(owner),
             to: w,
             level,
-        };
-    }
-    let other = owner.opponent();
-    Line {
-        winner: other.bit,
-        to: NONE,
-        level,
+        },
+        None => Line {
+            winner: u8::from(owner.opponent()),
+            to: NONE,
+            level,
+        },
     }
 }

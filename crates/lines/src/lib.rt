@@ -25,9 +25,8 @@ pub fn refused_line(text: &mut [u8], r: Refusal) -> usize
     requires { Room text.old 0 (refused_line (number_of r.kind) r.place) }
     ensures { Appended text.old text.new 0 (refused_line (number_of r.kind) r.place) result }
 {
-    let kind = r.kind;
+    let number = refusal::number(r.kind);
     let place = r.place as u64;
-    let number = refusal::number(kind);
     pair(text, 0, b"refused", number, place)
 }
 
@@ -76,12 +75,10 @@ fn vertex_lines(
     ensures { Appended text.old text.new at (vertex_lines owners.now priorities.now winners.now moves.now n) result }
 {
     let mut next = at;
-    let mut v = 0;
-    while v < n {
+    for v in 0..n {
         let winner = mark(winners, v);
         let to = recorded(moves, v);
         next = vertex_line(v, owners[v], priorities[v], winner, to, text, next);
-        v += 1;
     }
     next
 }

@@ -1,6 +1,6 @@
 -- The solver does not refuse tables of a well-formed game, and its solution stands at the beginnings of the lists.
 use Prim.Native.Nat.{ℕ, ◌*◌, ◌≤◌}
-use mathlib.Core.Path.{◌≡◌, sym, subst₂, ◌∙◌}
+use mathlib.Core.Path.{◌≡◌, refl, sym, subst₂, ◌∙◌}
 use mathlib.Core.List.{List, ◌++◌}
 use native.Mathlib.Omega.{arith}
 use lib.ListN.{length, take, drop, length-append}
@@ -14,9 +14,11 @@ use Rattle.storage.specs.promise.Lent.{Lent}
 use Rattle.storage.specs.parts.Answers.{cells_most}
 use Rattle.storage.proofs.Stores.{enough_room, cells_most_lem}
 use Rattle.storage.proofs.Passed.{lent_fits}
-use Rattle.solver.specs.declared.Solved.{Solved}
-use Rattle.solver.specs.declared.Solved.TheVariants.{Done, Refused}
-use Rattle.solver.specs.promise.Solving.{solved_said, IsSolution, solve_rows, Solves}
+use Rattle.std.specs.Prelude.{Result, Ok, Err}
+use Rattle.std.specs.Result.{IsOk}
+use Rattle.refusal.specs.declared.Refusal.{Refusal}
+use Rattle.refusal.specs.promise.Number.{tested_said}
+use Rattle.solver.specs.promise.Solving.{IsSolution, solve_rows, Solves}
 use Rattle.listing.specs.parts.Answering.{Solvable, Solution}
 
 -- an answer's beginning, for n vertices
@@ -34,9 +36,13 @@ module _ (t : Tables) (l : Lent) (s : Solvable t l) where
   no_refusal : None (solve_rows t l)
   no_refusal = lent_fits _ _ _ _ s.well_formed s.fit
 
-  pub solution : (after : Lent) (said : Solved) → Solves t l after (solved_said said) → Solution t after.answer
-  solution after Done a = record { is = a.written.solution }
-  solution after (Refused r) d = absurd (first_not_none (solve_rows t l) (number_of r.kind) r.place d.first no_refusal)
+  pub solution : (after : Lent) (said : Result Unit Refusal) → Solves t l after (tested_said said) → Solution t after.answer
+  solution after (Ok u) a = record { is = a.written.solution }
+  solution after (Err r) d = absurd (first_not_none (solve_rows t l) (number_of r.kind) r.place d.first no_refusal)
+
+  pub accepted : (after : Lent) (said : Result Unit Refusal) → Solves t l after (tested_said said) → IsOk said
+  accepted after (Ok u) a = refl
+  accepted after (Err r) d = absurd (first_not_none (solve_rows t l) (number_of r.kind) r.place d.first no_refusal)
 
 -- the room for an answer is enough for any game
 pub record Roomy (l : Lent) : Type 0 where

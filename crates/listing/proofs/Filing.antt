@@ -1,4 +1,5 @@
 -- What was read: its tables hold the file's game, and its listing is the file's; what was refused, and the line of the refusal.
+use Rattle.std.specs.Prelude.{Result, Ok, Err}
 use Prim.Native.Nat.{ℕ, ◌+◌, ◌<◌, ◌≤◌}
 use mathlib.Core.Path.{◌≡◌, sym, ap, ap₂, subst, ◌∙◌}
 use mathlib.Core.Logic.{inl, inr}
@@ -14,8 +15,6 @@ use Rattle.game.specs.promise.Tables.{Tables, tables_of, WellFormed}
 use Rattle.game.specs.promise.Lent.{Fit, Fault8}
 use Rattle.game.proofs.Sizes.{none_of_fit}
 use Rattle.housefile.specs.declared.Header.{Header}
-use Rattle.housefile.specs.declared.Read.{Read}
-use Rattle.housefile.specs.declared.Read.TheVariants.{Game, Refused}
 use Rattle.format.specs.promise.Filed.{vertices_filed, edges_filed, rule_filed, priorities_filed, tables_filed}
 use Rattle.housefile.specs.promise.Faults.{table_sizes}
 use Rattle.format.specs.promise.Faults.{judged_rows}
@@ -40,15 +39,15 @@ used size list table k h e l =
 
 -- by the case that was read, what its telling needs and gives
 
-pub game_tabled : (said : Read) (t : Tables) (h : Header) → said ≡ Game h → Tellable said t → Tabled h.vertices h.edges t
-game_tabled said t h e = subst (λ (x : Read). Tellable x t) e
+pub game_tabled : (said : Result Header Refusal) (t : Tables) (h : Header) → said ≡ Ok h → Tellable said t → Tabled h.vertices h.edges t
+game_tabled said t h e = subst (λ (x : Result Header Refusal). Tellable x t) e
 
-module _ (said : Read) (t : Tables) where
-  pub told_game : {before after : List ℕ} {r : ℕ} (h : Header) → said ≡ Game h → AnswerListed (front_of h.vertices h.edges t) before after r → Told said t before after r
-  told_game {before} {after} {r} h e = subst (λ (x : Read). Told x t before after r) (sym e)
+module _ (said : Result Header Refusal) (t : Tables) where
+  pub told_game : {before after : List ℕ} {r : ℕ} (h : Header) → said ≡ Ok h → AnswerListed (front_of h.vertices h.edges t) before after r → Told said t before after r
+  told_game {before} {after} {r} h e = subst (λ (x : Result Header Refusal). Told x t before after r) (sym e)
 
-  pub told_refused : {before after : List ℕ} {r : ℕ} (f : Refusal) → said ≡ Refused f → Appended before after 0 (refused_line (number_of f.kind) f.place) r → Told said t before after r
-  told_refused {before} {after} {r} f e = subst (λ (x : Read). Told x t before after r) (sym e)
+  pub told_refused : {before after : List ℕ} {r : ℕ} (f : Refusal) → said ≡ Err f → Appended before after 0 (refused_line (number_of f.kind) f.place) r → Told said t before after r
+  told_refused {before} {after} {r} f e = subst (λ (x : Result Header Refusal). Told x t before after r) (sym e)
 
 -- the line of a refusal fits
 pub refused_room : (text : List ℕ) (number place : ℕ) → length text ≡ 36880 → Room text 0 (refused_line number place)
@@ -107,7 +106,7 @@ module _ (file : List ℕ) (before after : Tables) (bytes : (i : ℕ) → get_or
         }
 
   -- the case of refusal
-  first_judged : (f : Refusal) → Fit (table_sizes before) → Reads file before after (read_said (Refused f)) → First (judged_rows file) (number_of f.kind) f.place
+  first_judged : (f : Refusal) → Fit (table_sizes before) → Reads file before after (read_said (Err f)) → First (judged_rows file) (number_of f.kind) f.place
   first_judged f fit r =
       first_front (judged_rows file) (row 8 (Fault8 (table_sizes before)) ∷ []) (number_of f.kind) f.place (none_of_fit (table_sizes before) fit, tt) r.first
 
@@ -121,10 +120,10 @@ module _ (file : List ℕ) (before after : Tables) (bytes : (i : ℕ) → get_or
 
   -- by what the reader says
 
-  pub tellable : (said : Read) → Reads file before after (read_said said) → Tellable said after
-  tellable (Game h) r = tabled h r
-  tellable (Refused f) r = tt
+  pub tellable : (said : Result Header Refusal) → Reads file before after (read_said said) → Tellable said after
+  tellable (Ok h) r = tabled h r
+  tellable (Err f) r = tt
 
-  pub told_set_down : (said : Read) → Reads file before after (read_said said) → Fit (table_sizes before) → {text text' : List ℕ} {k : ℕ} → length text ≡ 36880 → Told said after text text' k → SetDown file text text' k
-  told_set_down (Game h) r fit long a = game_set_down h r a
-  told_set_down (Refused f) r fit long a = refused_set_down f (first_judged f fit r) long a
+  pub told_set_down : (said : Result Header Refusal) → Reads file before after (read_said said) → Fit (table_sizes before) → {text text' : List ℕ} {k : ℕ} → length text ≡ 36880 → Told said after text text' k → SetDown file text text' k
+  told_set_down (Ok h) r fit long a = game_set_down h r a
+  told_set_down (Err f) r fit long a = refused_set_down f (first_judged f fit r) long a

@@ -7,9 +7,10 @@ ghost use Rattle.listing.specs.promise.Listing.{SetDown};
 ghost use Rattle.listing.specs.parts.Answering.{Solvable, Solution, AnswerListed, Tellable, Told};
 
 use game::{EDGES, VERTICES};
-use housefile::Read;
+use housefile::Header;
 use housefile::reader::read;
 use lines::{game_lines, refused_line};
+use refusal::Refusal;
 use solver::solve;
 use storage::answer::cells;
 use storage::{WINNERS, Winner};
@@ -27,7 +28,7 @@ fn answer(
     requires { Solvable (asked owners priorities starts targets) (buffers winners moves work) }
     ensures { Solution (lent owners priorities starts targets) (left winners moves work).answer }
 {
-    solve(owners, priorities, starts, targets, winners, moves, work);
+    solve(owners, priorities, starts, targets, winners, moves, work).unwrap();
 }
 
 // The lines of a game, with its answer: 16 bytes at most for the first line and 18 for each vertex.
@@ -61,7 +62,7 @@ fn listed(
 
 // What the reader says, as text: the lines of the game at the tables' beginnings, or the line of a refusal.
 fn told(
-    taken: Read,
+    taken: Result<Header, Refusal>,
     owners: &[u8],
     priorities: &[u8],
     starts: &[u16],
@@ -72,19 +73,17 @@ fn told(
     ensures { Told taken (lent owners priorities starts targets) text.old text.new result }
 {
     match taken {
-        Read::Refused(r) => refused_line(text, r),
-        Read::Game(h) => {
+        Ok(h) => {
             let n = h.vertices;
-            let m = h.edges;
-            let past = n + 1;
             listed(
                 &owners[..n],
                 &priorities[..n],
-                &starts[..past],
-                &targets[..m],
+                &starts[..n + 1],
+                &targets[..h.edges],
                 text,
             )
         }
+        Err(r) => refused_line(text, r),
     }
 }
 

@@ -5,11 +5,10 @@ use mathlib.Core.Logic.{inl, inr}
 use mathlib.Core.List.{List, [], ◌∷◌, ◌++◌}
 use lib.ListN.{length}
 use Rattle.refusal.specs.promise.Row.{Row, row, NoPlace, First, Gives}
-use Rattle.refusal.proofs.Rows.{Given, later}
-use Rattle.refusal.specs.promise.Number.{number_of}
-use Rattle.refusal.specs.parts.Found.{tested_said}
-use Rattle.refusal.specs.declared.Tested.{Tested}
-use Rattle.refusal.specs.declared.Tested.TheVariants.{Passed, Refused}
+use Rattle.refusal.proofs.Rows.{later}
+use Rattle.std.specs.Prelude.{Result, Ok, Err}
+use Rattle.refusal.specs.promise.Number.{number_of, tested_said}
+use Rattle.refusal.specs.declared.Refusal.{Refusal}
 use Rattle.game.specs.promise.Faults.{Fault1, Fault2, Fault3, Fault4, Fault5, Fault6, Fault7, table_rows}
 use Rattle.game.proofs.Sizes.{none_of_fitting}
 use Rattle.game.proofs.Starts.{none_of_placed}
@@ -42,9 +41,9 @@ module _ (file : List ℕ) (s : Summed file) where
   none4 : NoPlace (Fault4 (starts_filed file) (targets_filed file))
   none4 = none_of_placed _ _ _ (filed_placed file s)
 
-  without : (t : Tested) → Gives (table_rows (filed file).tables) (tested_said t) → Gives (value_rows file (length (owners_filed file))) (tested_said t)
-  without Passed g = (g.1.0, (g.1.1.0, g.1.1.1.1))
-  without (Refused r) g =
+  without : (t : Result Unit Refusal) → Gives (table_rows (filed file).tables) (tested_said t) → Gives (value_rows file (length (owners_filed file))) (tested_said t)
+  without (Ok u) g = (g.1.0, (g.1.1.0, g.1.1.1.1))
+  without (Err r) g =
       let n = length (owners_filed file) in
       let before = row 2 (Fault2 (owners_filed file)) ∷ row 3 (Fault3 (priorities_filed file)) ∷ [] in
       let after = row 5 (Fault5 n (starts_filed file) (targets_filed file)) ∷ row 6 (Fault6 n (targets_filed file)) ∷ row 7 (Fault7 n (starts_filed file) (targets_filed file)) ∷ [] in
@@ -52,7 +51,6 @@ module _ (file : List ℕ) (s : Summed file) where
       first_without before r4 after (number_of r.kind) r.place none4 (first_without [] (row 1 (Fault1 (filed file).tables)) (before ++ (r4 ∷ after)) (number_of r.kind) r.place none1 g)
 
   -- 45 has passed too
-  pub filed_said : {t : Tested} → Given (table_rows (filed file).tables) t → Given (filed_rows file) t
-  filed_said {t} g =
-      let values : Given (value_rows file (vertices_filed file)) t = record { gives = subst (λ (n : ℕ). Gives (value_rows file n) (tested_said t)) (owners_long file) (without t g.gives) } in
-      later (row 45 (Fault45 file) ∷ []) ((λ x f. f.wrong s.sum), tt) values
+  pub filed_said : (t : Result Unit Refusal) → Gives (table_rows (filed file).tables) (tested_said t) → Gives (filed_rows file) (tested_said t)
+  filed_said t g =
+      later (row 45 (Fault45 file) ∷ []) (value_rows file (vertices_filed file)) t ((λ x f. f.wrong s.sum), tt) (subst (λ (n : ℕ). Gives (value_rows file n) (tested_said t)) (owners_long file) (without t g))

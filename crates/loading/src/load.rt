@@ -1,6 +1,6 @@
 // The tables of a file whose counts add up: decoded, tested, turned.
 ghost use Rattle.refusal.specs.promise.Row.{Gives};
-ghost use Rattle.refusal.specs.parts.Found.{tested_said};
+ghost use Rattle.refusal.specs.promise.Number.{tested_said};
 ghost use Rattle.game.specs.promise.Tables.{tables_of};
 ghost use Rattle.game.specs.promise.Lent.{asked, written};
 ghost use Rattle.format.specs.promise.Filed.{filed};
@@ -12,7 +12,7 @@ ghost use Rattle.loading.specs.parts.Loading.{blank, Loads};
 use decoding::fields;
 use decoding::turn::turn;
 use format::bytes::{edges, vertices};
-use refusal::Tested;
+use refusal::Refusal;
 use tables::test_tables;
 
 // The four tables as they are filed, set down in blank ones.
@@ -33,34 +33,39 @@ fn decode(
 }
 
 // 2 to 7: the test of the tables, on those that are filed.
-fn values(file: &[u8], owners: &[u8], priorities: &[u8], starts: &[u16], targets: &[u16]) -> Tested
+fn values(
+    file: &[u8],
+    owners: &[u8],
+    priorities: &[u8],
+    starts: &[u16],
+    targets: &[u16],
+) -> Result<(), Refusal>
     requires { Summed file.now × Holding (filed file.now).tables (asked owners priorities starts targets) }
     ensures { Gives (filed_rows file.now) (tested_said result) }
 {
     let n = vertices(file);
     let m = edges(file);
-    let bounds = n + 1;
     test_tables(
         &owners[..n],
         &priorities[..n],
-        &starts[..bounds],
+        &starts[..n + 1],
         &targets[..m],
     )
 }
 
-// The priorities are tested as they are filed, and turned by the rule only then; of a file that is refused nobody reads them.
+// The priorities are tested as they are filed, and turned by the rule only then.
 pub fn load(
     file: &[u8],
     owners: &mut [u8],
     priorities: &mut [u8],
     starts: &mut [u16],
     targets: &mut [u16],
-) -> Tested
+) -> Result<(), Refusal>
     requires { Summed file.now × Holding blank (tables_of owners.old priorities.old starts.old targets.old) }
     ensures { Loads (filed_rows file.now) file.now (written owners priorities starts targets) result }
 {
     decode(file, owners, priorities, starts, targets);
-    let tested = values(file, owners, priorities, starts, targets);
+    values(file, owners, priorities, starts, targets)?;
     turn(file, priorities);
-    tested
+    Ok(())
 }

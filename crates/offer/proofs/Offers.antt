@@ -10,21 +10,16 @@ use Rattle.game.specs.promise.Tables.{next_of, Tables, vertices}
 use Rattle.game.specs.parts.Stretch.{Stretch}
 use Rattle.storage.specs.promise.Answer.{mark_room, mark_of}
 use Rattle.storage.proofs.Stores.{has_room}
-use Rattle.space.specs.parts.Work.{section, Cell}
+use Rattle.space.specs.parts.Work.{section}
 use Rattle.space.specs.parts.Desk.{Desk}
 use Rattle.game.proofs.Starts.{stretch_of}
 use Rattle.winning.specs.promise.Answer.{no_move}
 use Rattle.levels.specs.parts.Levels.{settled_of, Seen, FloorOf}
 use Rattle.levels.proofs.Flags.{settled_flag}
-use Rattle.offer.specs.parts.Offering.{Grounds, AllSeen, Grounded, AllFor, Offerable, Offered}
-use Rattle.offer.specs.declared.Ground.{Ground}
-use Rattle.offer.specs.declared.Ground.TheVariants.{Level}
+use Rattle.offer.specs.parts.Offering.{Grounds, AllSeen, Grounded, Offerable, Offered}
 
 module _ {x u : ℕ} {tables : Tables} {d : Desk} {winners work : List ℕ} (p : Offerable x u tables d winners work) where
-  -- x and u have priorities
-  from_seen : x < length tables.priorities
-  from_seen = omega (arith, p.edge.from, p.well_formed.level)
-
+  -- u has a priority
   to_seen : u < length tables.priorities
   to_seen = omega (arith, p.edge.to, p.well_formed.level)
 
@@ -33,9 +28,6 @@ module _ {x u : ℕ} {tables : Tables} {d : Desk} {winners work : List ℕ} (p :
 
   pub room : u < mark_room winners
   room = has_room p.known.stored to_seen
-
-  pub offer_cell : Cell (length tables.priorities) x work
-  offer_cell = record { small = p.known.small; long = p.known.work_long; within = from_seen }
 
   pub stretch : Stretch tables.starts tables.targets x
   stretch = stretch_of _ _ _ p.well_formed.placed x p.edge.from
@@ -67,8 +59,8 @@ module _ {x u : ℕ} {tables : Tables} {d : Desk} {winners work : List ℕ} (p :
         }
 
     -- all of x's successors have u's mark
-    pub offered_other : {w bound : ℕ} {r : List ℕ} {g : Ground} {level : ℕ} → w ≡ mark_of winners u → get_or tables.owners x 0 ≢ w → r ≡ next_of tables.starts tables.targets x → g ≡ Level level → AllFor w bound r tables.priorities d.levels winners work g → get_or tables.priorities x 0 ≤ bound → Offered x w no_move level tables d.levels winners work
-    offered_other {w} {bound} {r} {g} {level} e o er eg a l =
+    pub offered_other : {w bound : ℕ} {r : List ℕ} {level : ℕ} → w ≡ mark_of winners u → get_or tables.owners x 0 ≢ w → r ≡ next_of tables.starts tables.targets x → Grounded w bound r tables.priorities d.levels winners work level → get_or tables.priorities x 0 ≤ bound → Offered x w no_move level tables d.levels winners work
+    offered_other {w} {bound} {r} {level} e o er a l =
         record {
           unsettled = unsettled;
           player = rw e (p.player u p.edge.to);
@@ -78,7 +70,7 @@ module _ {x u : ℕ} {tables : Tables} {d : Desk} {winners work : List ℕ} (p :
         }
       where
         all : Grounded w bound (next_of tables.starts tables.targets x) tables.priorities d.levels winners work level
-        all = subst (λ (k : List ℕ). Grounded w bound k tables.priorities d.levels winners work level) er (subst (AllFor w bound r tables.priorities d.levels winners work) eg a)
+        all = subst (λ (k : List ℕ). Grounded w bound k tables.priorities d.levels winners work level) er a
 
         marked : (y : ℕ) → Listed y (next_of tables.starts tables.targets x) → mark_of winners y ≡ w
         marked y h = subst (λ (k : ℕ). mark_of winners k ≡ w) h.is (all.mark h.at h.within)

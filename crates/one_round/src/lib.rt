@@ -1,6 +1,7 @@
 // Either order, under a budget.
 #![tactic(auto)]
 
+ghost use Rattle.std.specs.Prelude.{◌≢◌};
 ghost use Rattle.game.specs.promise.Lent.{asked, lent};
 ghost use Rattle.space.specs.parts.Desk.{desk_of};
 ghost use Rattle.draw.specs.parts.Drawing.{Drainable};
@@ -11,9 +12,27 @@ use orders::Ended;
 use orders::lowest::lowest;
 use storage::Winner;
 
-// One round: lowest first where `order` is 0, else attraction.
+// Which of the two orders a round takes.
+#[derive(Clone, Copy, Debug, PartialEq, Eq)]
+pub enum Order {
+    Lowest,
+    Attraction,
+}
+
+impl Order {
+    pub fn other(self) -> Order
+        ensures { result ≢ self }
+    {
+        match self {
+            Order::Lowest => Order::Attraction,
+            Order::Attraction => Order::Lowest,
+        }
+    }
+}
+
+// One round in an order.
 pub fn round(
-    order: usize,
+    order: Order,
     budget: usize,
     owners: &[u8],
     priorities: &[u8],
@@ -29,12 +48,12 @@ pub fn round(
     requires { Drainable 0 (asked owners priorities starts targets) ins.now froms.now (desk_of desk.old) winners.old moves.old work.old }
     ensures { Ran (lent owners priorities starts targets) ins.now froms.now winners.old moves.old work.old (desk_of desk.new) winners.new moves.new work.new result }
 {
-    if order == 0 {
-        return lowest(
+    match order {
+        Order::Lowest => lowest(
             budget, owners, priorities, starts, targets, ins, froms, desk, winners, moves, work,
-        );
+        ),
+        Order::Attraction => attraction(
+            budget, owners, priorities, starts, targets, ins, froms, desk, winners, moves, work,
+        ),
     }
-    attraction(
-        budget, owners, priorities, starts, targets, ins, froms, desk, winners, moves, work,
-    )
 }

@@ -1,5 +1,5 @@
 -- Steps of an order one after the other, from a pick to the next.
-use Prim.Native.Nat.{ℕ, ◌<◌, ◌≤◌}
+use Prim.Native.Nat.{ℕ, ◌+◌, ◌<◌, ◌≤◌}
 use mathlib.Core.Path.{◌≡◌}
 use mathlib.Core.List.{List}
 use native.Mathlib.Omega.{arith}
@@ -8,34 +8,30 @@ use Rattle.storage.specs.promise.Answer.{mark_of}
 use Rattle.justification.specs.parts.Measure.{measure}
 use Rattle.space.specs.parts.Work.{section}
 use Rattle.space.specs.parts.Desk.{Desk}
-use Rattle.pick.specs.declared.Picked.{Picked}
-use Rattle.pick.specs.declared.Picked.TheVariants.{At, Nothing}
-use Rattle.pick.specs.parts.Order.{Pickable, Picks}
+use Rattle.std.specs.Prelude.{Option, Some, None}
+use Rattle.pick.specs.parts.Order.{Picks}
 use Rattle.waiting.specs.parts.Open.{LeastOpen, AllSettled, NoneBelow}
 use Rattle.pick.proofs.Picking.{picked_at, picked_nothing, covered_dropped, standing_dropped}
 use Rattle.levels.specs.parts.Levels.{settled_of}
 use Rattle.step.specs.parts.Stepping.{Engine, Moved, Falls}
 use Rattle.step.proofs.Least.{LeastSteppable, LeastStepped}
-use Rattle.step.proofs.Moving.{moved_none, moved_more, moved_lines}
+use Rattle.step.proofs.Moving.{moved_more, moved_lines}
 use Rattle.orders.specs.declared.Ended.TheVariants.{Done}
 use Rattle.orders.specs.parts.Ending.{Ran}
 
 module _ {tables : Tables} {ins froms : List ℕ} {d : Desk} {winners moves work : List ℕ} (e : Engine tables ins froms d winners moves work) where
-  pub pickable : Pickable (vertices tables) d work
-  pickable = record { priorities = tables.priorities; standing = e.standing }
-
-  module _ {from : ℕ} {d' : Desk} {r : Picked} (b : NoneBelow (vertices tables) tables.priorities (section 0 (vertices tables) work) from) (p : Picks (vertices tables) from d work d' r) where
+  module _ {from : ℕ} {d' : Desk} {r : Option ℕ} (b : NoneBelow (vertices tables) tables.priorities (section 0 (vertices tables) work) from) (p : Picks (vertices tables) from d work d' r) where
     -- some settled vertices have left their lines
     pub picked_moved : Moved tables ins froms winners moves work d' winners moves work
     picked_moved = moved_lines e (standing_dropped p.dropped e.standing) (covered_dropped p.dropped e.covered) p.dropped.lines_only.levels
 
-    pub picked_least : {v : ℕ} → r ≡ At v → LeastOpen (vertices tables) tables.priorities (section 0 (vertices tables) work) v
+    pub picked_least : {v : ℕ} → r ≡ Some v → LeastOpen (vertices tables) tables.priorities (section 0 (vertices tables) work) v
     picked_least h = picked_at h p e.standing e.covered b
 
-    pub picked_steppable : {v : ℕ} → r ≡ At v → LeastSteppable v tables ins froms d' winners moves work
+    pub picked_steppable : {v : ℕ} → r ≡ Some v → LeastSteppable v tables ins froms d' winners moves work
     picked_steppable h = record { engine = picked_moved.engine; least = picked_least h }
 
-    pub picked_all : r ≡ Nothing → AllSettled (vertices tables) (section 0 (vertices tables) work)
+    pub picked_all : r ≡ None → AllSettled (vertices tables) (section 0 (vertices tables) work)
     picked_all h = picked_nothing h p e.standing e.covered b
 
 -- nothing at all is below 0
@@ -43,50 +39,37 @@ pub none_below_zero : {n : ℕ} {priorities flags : List ℕ} → NoneBelow n pr
 none_below_zero = record { above = λ u l f. omega arith }
 
 -- the measure has fallen, or nothing was spent
-pub record Spending (budget left : ℕ) (tables : Tables) (winners₀ work₀ winners work : List ℕ) : Type 0 where
+pub record Spending (spent : ℕ) (tables : Tables) (winners₀ work₀ winners work : List ℕ) : Type 0 where
   pub not_more : measure (game_of tables) (mark_of winners) (settled_of (vertices tables) work) ≤ measure (game_of tables) (mark_of winners₀) (settled_of (vertices tables) work₀)
-  pub less : left < budget → Falls tables winners₀ work₀ winners work
+  pub less : 0 < spent → Falls tables winners₀ work₀ winners work
 
 -- lowest first: the engine has moved, and nothing below the cursor is open
-pub record Lowering (low budget left : ℕ) (tables : Tables) (ins froms winners₀ moves₀ work₀ : List ℕ) (d : Desk) (winners moves work : List ℕ) : Type 0 where
-  pub at_most : left ≤ budget
+pub record Lowering (low spent : ℕ) (tables : Tables) (ins froms winners₀ moves₀ work₀ : List ℕ) (d : Desk) (winners moves work : List ℕ) : Type 0 where
   pub moved : Moved tables ins froms winners₀ moves₀ work₀ d winners moves work
   pub none_below : NoneBelow (vertices tables) tables.priorities (section 0 (vertices tables) work) low
-  pub spending : Spending budget left tables winners₀ work₀ winners work
+  pub spending : Spending spent tables winners₀ work₀ winners work
 
-module _ {tables : Tables} {ins froms winners₀ moves₀ work₀ : List ℕ} where
-  pub lowering_none : {budget : ℕ} {d : Desk} → Engine tables ins froms d winners₀ moves₀ work₀ → Lowering 0 budget budget tables ins froms winners₀ moves₀ work₀ d winners₀ moves₀ work₀
-  lowering_none e =
-      record {
-        at_most = omega arith;
-        moved = moved_none e;
-        none_below = none_below_zero;
-        spending = record { not_more = omega arith; less = λ l. absurd (omega arith) };
-      }
+module _
+    {low spent : ℕ} {tables : Tables} {ins froms winners₀ moves₀ work₀ : List ℕ} {d : Desk} {winners moves work : List ℕ}
+    (s : Lowering low spent tables ins froms winners₀ moves₀ work₀ d winners moves work)
+  where
+    pub lowering_step :
+        {low' : ℕ} {d' : Desk} {winners' moves' work' : List ℕ} →
+        LeastStepped tables ins froms winners moves work d' winners' moves' work' low' →
+        Lowering low' (spent + 1) tables ins froms winners₀ moves₀ work₀ d' winners' moves' work'
+    lowering_step x =
+        let less = x.falls.less in
+        let before = s.spending.not_more in
+        record {
+          moved = moved_more s.moved x.moved;
+          none_below = x.none_below;
+          spending = record { not_more = omega arith; less = λ h. record { less = omega arith } };
+        }
 
-  module _
-      {low budget left : ℕ} {d : Desk} {winners moves work : List ℕ}
-      (s : Lowering low budget left tables ins froms winners₀ moves₀ work₀ d winners moves work)
-    where
-      pub lowering_step :
-          {low' left' : ℕ} {d' : Desk} {winners' moves' work' : List ℕ} →
-          left' < left →
-          LeastStepped tables ins froms winners moves work d' winners' moves' work' low' →
-          Lowering low' budget left' tables ins froms winners₀ moves₀ work₀ d' winners' moves' work'
-      lowering_step l x =
-          let less = x.falls.less in
-          let before = s.spending.not_more in
-          record {
-            at_most = omega (arith, s.at_most);
-            moved = moved_more s.moved x.moved;
-            none_below = x.none_below;
-            spending = record { not_more = omega arith; less = λ h. record { less = omega arith } };
-          }
-
-      -- nothing is open
-      pub lowering_all : {d₁ : Desk} {r : Picked} → Picks (vertices tables) low d work d₁ r → r ≡ Nothing → Ran tables ins froms winners₀ moves₀ work₀ d₁ winners moves work Done
-      lowering_all p h =
-          record {
-            moved = moved_more s.moved (picked_moved s.moved.engine s.none_below p);
-            ends = picked_all s.moved.engine s.none_below p h;
-          }
+    -- nothing is open
+    pub lowering_all : {d₁ : Desk} {r : Option ℕ} → Picks (vertices tables) low d work d₁ r → r ≡ None → Ran tables ins froms winners₀ moves₀ work₀ d₁ winners moves work Done
+    lowering_all p h =
+        record {
+          moved = moved_more s.moved (picked_moved s.moved.engine s.none_below p);
+          ends = picked_all s.moved.engine s.none_below p h;
+        }

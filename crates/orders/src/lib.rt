@@ -4,7 +4,7 @@
 pub mod lowest;
 
 // Nothing is open, or the budget is spent.
-#[derive(Drop)]
+#[derive(Clone, Copy, Debug, PartialEq, Eq)]
 pub enum Ended {
     Done,
     Spent,

@@ -6,7 +6,7 @@ ghost use Rattle.orders.specs.parts.Ending.{Ran, Fell};
 
 use crate::Ended;
 use line::test;
-use pick::{Picked, pick};
+use pick::pick;
 use player::Player;
 use storage::Winner;
 use turn::keep::keep;
@@ -33,16 +33,13 @@ pub fn lowest(
 {
     let n = owners.len();
     let mut low: usize = 0;
-    let mut left = budget;
-    while 0 < left {
-        let picked = pick(n, low, desk, work);
-        let Picked::At(v) = picked else {
+    for _ in 0..budget {
+        let Some(v) = pick(n, low, desk, work) else {
             return Ended::Done;
         };
         let line = test(v, owners, priorities, starts, targets, winners);
         let own = priorities[v];
-        left -= 1;
-        if line.winner == Player::of_priority(own).bit {
+        if line.winner == u8::from(Player::of_priority(own)) {
             keep(v, line, desk, moves, work);
             low = own as usize;
         } else {

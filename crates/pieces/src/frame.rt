@@ -24,11 +24,7 @@ pub fn clear(part: &mut [u8], from: usize)
     requires { (length part.old ≡ 512) × (from ≤ 510) }
     ensures { Put from 510 zero_byte part.old part.new }
 {
-    let mut i = from;
-    while i < 510 {
-        part[i] = 0;
-        i += 1;
-    }
+    part[from..510].fill(0);
 }
 
 // The check of what stands there.

@@ -17,34 +17,19 @@ pub fn header(owners: &[u8], targets: &[u16], part: &mut [u8])
     part[10] = 0;
 }
 
-// Where a run from here ends: so many on, or where the list does.
-fn run_end(first: usize, most: usize, all: usize) -> usize
-    requires { (first < 65536) × (most ≤ 252) }
-    ensures { result ≡ first + min most (all - first) }
-{
-    if all <= first {
-        return first;
-    }
-    if all - first < most {
-        return all;
-    }
-    first + most
-}
+// Two functions, not one: a generic one would take a closure that puts an item, and its contract would have to say what the closure puts.
 
 // 126 vertices from the first on, or what is left of them: owner, priority, number of successors.
 pub fn run_vertices(owners: &[u8], priorities: &[u8], starts: &[u16], first: usize, part: &mut [u8])
     requires { Run owners.now priorities.now starts.now first part.old }
     ensures { Put 6 (6 + 4 * min 126 (length owners.now - first)) (vertex_at (tables_of owners.now priorities.now starts.now []) first) part.old part.new }
 {
-    let end = run_end(first, 126, owners.len());
-    let mut at: usize = 6;
-    let mut v = first;
-    while v < end {
+    let left = owners.len().saturating_sub(first);
+    for v in first..first + left.min(126) {
+        let at = 6 + 4 * (v - first);
         part[at] = owners[v];
         part[at + 1] = priorities[v];
         set_word(part, at + 2, starts[v + 1] - starts[v]);
-        at += 4;
-        v += 1;
     }
 }
 
@@ -53,12 +38,8 @@ pub fn run_targets(targets: &[u16], first: usize, part: &mut [u8])
     requires { (length part.old ≡ 512) × (first < 65536) }
     ensures { Put 6 (6 + 2 * min 252 (length targets.now - first)) (target_at targets.now first) part.old part.new }
 {
-    let end = run_end(first, 252, targets.len());
-    let mut at: usize = 6;
-    let mut e = first;
-    while e < end {
-        set_word(part, at, targets[e]);
-        at += 2;
-        e += 1;
+    let left = targets.len().saturating_sub(first);
+    for e in first..first + left.min(252) {
+        set_word(part, 6 + 2 * (e - first), targets[e]);
     }
 }

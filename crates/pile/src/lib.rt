@@ -13,10 +13,6 @@ pub struct Pile {
     pub top: usize,
 }
 
-pub fn larger(a: usize, b: usize) -> usize {
-    if a < b { b } else { a }
-}
-
 // One vertex more; on a full pile it is left out, and waits in its line for a later turn.
 pub fn push(x: usize, desk: &mut [u16], tail: usize) -> usize
     requires { Pushable x (desk_of desk.old) tail }

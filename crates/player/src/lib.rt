@@ -1,34 +1,61 @@
-// The two players, by the bytes that name them: 0 for Even, 1 for Odd.
+// The two players, and the bytes that name them: 0 for Even, 1 for Odd.
 #![tactic(auto)]
 
 ghost use Rattle.std.specs.Prelude.{◌≡◌};
 ghost use Rattle.player.specs.promise.Player.{opponent_of, parity_of};
+ghost use Rattle.player.specs.promise.Named.{bit_of, Names};
 
-#[derive(Clone, Copy)]
-pub struct Player {
-    pub bit: u8,
+#[derive(Clone, Copy, Debug, PartialEq, Eq)]
+pub enum Player {
+    Even,
+    Odd,
 }
 
+// A byte that names no player.
+#[derive(Clone, Copy, Debug, PartialEq, Eq)]
+pub struct Nobody(pub u8);
+
 impl Player {
-    pub const EVEN: Player = Player { bit: 0 };
-
-    pub const ODD: Player = Player { bit: 1 };
-
     // The other player.
     pub fn opponent(self) -> Player
-        ensures { result.bit ≡ opponent_of self.bit }
+        ensures { bit_of result ≡ opponent_of (bit_of self) }
     {
-        if self.bit == 0 {
-            Player::ODD
-        } else {
-            Player::EVEN
+        match self {
+            Player::Even => Player::Odd,
+            Player::Odd => Player::Even,
         }
     }
 
     // The player whose parity a priority has.
     pub fn of_priority(priority: u8) -> Player
-        ensures { result.bit ≡ parity_of priority }
+        ensures { bit_of result ≡ parity_of priority }
     {
-        Player { bit: priority % 2 }
+        if priority % 2 == 0 {
+            Player::Even
+        } else {
+            Player::Odd
+        }
+    }
+}
+
+impl TryFrom<u8> for Player {
+    type Error = Nobody;
+
+    ghost try_from_gives = { Names };
+
+    fn try_from(byte: u8) -> Result<Player, Nobody> {
+        match byte {
+            0 => Ok(Player::Even),
+            1 => Ok(Player::Odd),
+            _ => Err(Nobody(byte)),
+        }
+    }
+}
+
+impl From<Player> for u8 {
+    ghost from_gives = { λ player byte. byte ≡ bit_of player };
+
+    fn from(player: Player) -> u8 {
+        player as u8
     }
 }

@@ -9,15 +9,9 @@ ghost use Rattle.probe.specs.parts.Probing.{Probable};
 
 use attract::{Left, drain};
 use line::test;
-use pile::{larger, push};
+use pile::push;
 use step::step;
 use storage::Winner;
-
-fn one_less(budget: usize) -> usize
-    ensures { (result ≤ budget) × (0 < budget → result < budget) }
-{
-    if budget == 0 { 0 } else { budget - 1 }
-}
 
 // Tests v, an open vertex of least priority, and attracts from it; the test costs one.
 pub fn probe(
@@ -47,7 +41,7 @@ pub fn probe(
     let drained = drain(
         tail,
         0,
-        one_less(budget),
+        budget.saturating_sub(1),
         owners,
         priorities,
         starts,
@@ -61,6 +55,6 @@ pub fn probe(
     );
     Left {
         budget: drained.budget,
-        top: larger(drained.top, own + 1),
+        top: drained.top.max(own + 1),
     }
 }

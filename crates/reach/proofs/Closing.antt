@@ -10,7 +10,7 @@ use lib.ListN.{length, get_or}
 use Rattle.winning.specs.promise.Walk.{stay, step}
 use Rattle.reach.specs.parts.Closure.{Allowed, Queued, Reason}
 use Rattle.space.specs.parts.Work.{section, Cell, Beside}
-use Rattle.reach.specs.parts.Queue.{Closable, ClosedQueue, Visitable, Grown, Visited, ClosableIn, ClosedIn, VisitableIn, VisitedIn}
+use Rattle.reach.specs.parts.Queue.{Closable, ClosedQueue, Grown, Visited, ClosableIn, ClosedIn, VisitedIn}
 use Rattle.reach.proofs.Queues.{tail_bounded}
 use Rattle.space.proofs.Sections.{beside_none, beside_more}
 
@@ -33,13 +33,6 @@ closing_none q =
     }
 
 module _ {n : ℕ} {ins froms level choice reached₀ queue₀ : List ℕ} {tail : ℕ} (p : Closable n ins froms level choice reached₀ queue₀ tail) {bound : ℕ} {reached queue : List ℕ} {end h : ℕ} (c : Closing n ins froms level choice bound reached₀ reached queue end h) where
-  pub closing_visit : h < end → Visitable n (get_or queue h 0) ins froms level choice reached queue end
-  closing_visit l =
-      record {
-        closable = record { back = p.back; small = p.small; level_long = p.level_long; queued = c.queued };
-        vertex = c.queued.vertex h l;
-      }
-
   pub closing_more : {reached' queue' : List ℕ} {r : ℕ} → h < end → Visited n (get_or queue h 0) ins froms level choice bound reached queue end reached' queue' r → Closing n ins froms level choice bound reached₀ reached' queue' r (h + 1)
   closing_more {reached'} {queue'} {r} l d =
       record {
@@ -91,13 +84,6 @@ module _ {n : ℕ} {ins froms choice work₀ : List ℕ} {tail : ℕ} (p : Closa
     -- a turn's place is one of the queue's, of which there are n
     pub closing_place : h < end → Cell n h work
     closing_place l = record { small = p.closable.small; long = closing_in_long; within = omega (arith, tail_bounded c.closing.queued) }
-
-    pub closing_in_visit : {w : ℕ} → h < end → w ≡ get_or (section 2 n work) h 0 → VisitableIn n w ins froms choice work end
-    closing_in_visit {w} l is =
-        record {
-          long = closing_in_long;
-          visitable = rw c.beside.levels (subst (λ (x : ℕ). Visitable n x ins froms (section 0 n work₀) choice (section 1 n work) (section 2 n work) end) (sym is) (closing_visit p.closable c.closing l));
-        }
 
     pub closing_in_more : {w : ℕ} {work' : List ℕ} {r : ℕ} → h < end → w ≡ get_or (section 2 n work) h 0 → VisitedIn n w ins froms choice bound work end work' r → ClosingIn n ins froms choice bound work₀ work' r (h + 1)
     closing_in_more {w} {work'} {r} l is d =

@@ -100,10 +100,6 @@ filled_queued {n} {work} long clean = fresh_in n work long (section_filled n wor
 pub cleared_queued : {n : ℕ} {work work' : List ℕ} → length work ≡ 4 * n → ClearedIn n work work' → Queued n (section 1 n work') (section 2 n work') 0
 cleared_queued long c = fresh_in _ _ (c.beside.long ∙ long) c.filled
 
--- a seed is a place of the work space, and so is the queue's end
-pub seed_cell : {n v : ℕ} {work : List ℕ} {tail : ℕ} → SeedableIn n v work tail → Cell n v work
-seed_cell s = record { small = s.seedable.small; long = s.long; within = s.seedable.vertex }
-
 pub tail_cell : {n v : ℕ} {work middle : List ℕ} {tail : ℕ} → SeedableIn n v work tail → CellSet n 1 v 1 work middle → Cell n tail middle
 tail_cell s m = record { small = s.seedable.small; long = m.long ∙ s.long; within = room s.seedable }
 

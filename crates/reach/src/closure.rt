@@ -70,12 +70,9 @@ fn visit(
     requires { VisitableIn n w ins.now froms.now choice.now work.old tail }
     ensures { VisitedIn n w ins.now froms.now choice.now bound work.old tail work.new result }
 {
-    let last = wide(ins[w + 1]);
-    let mut i = wide(ins[w]);
     let mut end = tail;
-    while i < last {
+    for i in wide(ins[w])..wide(ins[w + 1]) {
         end = try_step(n, wide(froms[i]), w, bound, choice, work, end);
-        i += 1;
     }
     end
 }
@@ -95,6 +92,7 @@ pub fn close(
 {
     let mut end = tail;
     let mut h = 0;
+    // No `for`: the queue grows while it is read.
     while h < end {
         let w = wide(queued(n, h, work));
         end = visit(n, w, ins, froms, bound, choice, work, end);
@@ -108,10 +106,8 @@ pub fn clear(n: usize, work: &mut [u16], tail: usize)
     requires { ClearableIn n work.old tail }
     ensures { ClearedIn n work.old work.new }
 {
-    let mut i = 0;
-    while i < tail {
+    for i in 0..tail {
         let v = wide(queued(n, i, work));
         set_reached(n, v, 0, work);
-        i += 1;
     }
 }

@@ -4,7 +4,8 @@ use mathlib.Core.Path.{◌≡◌, refl, sym, ap, ap₂, ◌∙◌}
 use mathlib.Core.List.{List, [], ◌∷◌, map, ◌++◌}
 use native.Mathlib.Omega.{arith}
 use lib.ListN.{get_or}
-use Rattle.refusal.specs.promise.Number.{number_of, said_of}
+use Rattle.std.specs.Prelude.{Result, Ok, Err}
+use Rattle.refusal.specs.promise.Number.{number_of, said_of, tested_said}
 use Rattle.refusal.specs.declared.TableFault.{TableFault}
 use Rattle.refusal.specs.declared.TableFault.TheVariants as table
 use Rattle.refusal.specs.declared.AnswerFault.TheVariants as answer
@@ -75,3 +76,10 @@ refusal_unique q r e =
     let k : number_of q.kind ≡ number_of r.kind = cc in
     let x : q.place ≡ r.place = cc in
     ap₂ {C = Refusal} (λ (k : Kind) (x : ℕ). record { kind = k; place = x }) (number_injective q.kind r.kind k) x
+
+-- what is said determines the result
+pub result_unique : (a b : Result Unit Refusal) → tested_said a ≡ tested_said b → a ≡ b
+result_unique (Ok u) (Ok v) e = refl
+result_unique (Ok u) (Err r) e = let z : ◌≡◌ {A = ℕ} 0 1 = cc in absurd (omega arith)
+result_unique (Err q) (Ok u) e = let z : ◌≡◌ {A = ℕ} 0 1 = cc in absurd (omega arith)
+result_unique (Err q) (Err r) e = ap Err (refusal_unique q r e)

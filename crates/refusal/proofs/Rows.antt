@@ -9,11 +9,10 @@ use native.Mathlib.Decide.{dec_lt}
 use native.Mathlib.Omega.{arith}
 use Rattle.refusal.specs.promise.Row.{Row, row, refused, Lowest, NoPlace, None, First, Gives}
 use Rattle.refusal.specs.promise.Number.{number_of}
-use Rattle.refusal.specs.parts.Found.{Finds, tested_said, or_of, Joins, then_of, Follows}
-use Rattle.refusal.specs.declared.Found.{Found}
-use Rattle.refusal.specs.declared.Found.TheVariants.{At, Nowhere}
-use Rattle.refusal.specs.declared.Tested.{Tested}
-use Rattle.refusal.specs.declared.Tested.TheVariants.{Passed, Refused}
+use Rattle.std.specs.Prelude.{Option, Some, Result, Ok, Err}
+use Rattle.std.specs.Prelude.{None as nothing}
+use Rattle.refusal.specs.parts.Found.{Finds, refused_at, Refuses}
+use Rattle.refusal.specs.promise.Number.{tested_said}
 use Rattle.refusal.specs.declared.Kind.{Kind}
 use Rattle.refusal.specs.declared.Refusal.{Refusal}
 use Rattle.refusal.proofs.Numbers.{refusal_unique}
@@ -40,12 +39,12 @@ first_unique (r ∷ rows) k l x y (inr a) (inl b) = absurd (a.0 y b.1.holds)
 first_unique (r ∷ rows) k l x y (inr a) (inr b) = first_unique rows k l x y a.1 b.1
 
 -- tests have no second result
-pub tested_unique : (rows : List Row) (a b : Tested) → Gives rows (tested_said a) → Gives rows (tested_said b) → a ≡ b
-tested_unique rows Passed Passed f g = refl
-tested_unique rows Passed (Refused r) f g = absurd (first_not_none rows (number_of r.kind) r.place g f)
-tested_unique rows (Refused q) Passed f g = absurd (first_not_none rows (number_of q.kind) q.place f g)
-tested_unique rows (Refused q) (Refused r) f g =
-    ap Refused (refusal_unique q r (first_unique rows (number_of q.kind) (number_of r.kind) q.place r.place f g))
+pub tested_unique : (rows : List Row) (a b : Result Unit Refusal) → Gives rows (tested_said a) → Gives rows (tested_said b) → a ≡ b
+tested_unique rows (Ok u) (Ok v) f g = refl
+tested_unique rows (Ok u) (Err r) f g = absurd (first_not_none rows (number_of r.kind) r.place g f)
+tested_unique rows (Err q) (Ok u) f g = absurd (first_not_none rows (number_of q.kind) q.place f g)
+tested_unique rows (Err q) (Err r) f g =
+    ap Err (refusal_unique q r (first_unique rows (number_of q.kind) (number_of r.kind) q.place r.place f g))
 
 -- Rows are joined and taken apart.
 
@@ -106,57 +105,50 @@ pub none_of : (k : ℕ) (rows : List Row) → None rows → NoPlace (row_of k ro
 none_of k [] n = λ x h. h
 none_of k (r ∷ rows) n = none_chosen (eqb k r.number) r.applies (row_of k rows) n.0 (none_of k rows n.1)
 
--- A test joins its row to what was said so far.
+-- A test's row comes after those that have passed: its refusal is the first, and else one row more has passed.
 
--- what was said so far is the first of these rows that applies
-pub record Given (rows : List Row) (said : Tested) : Type 0 where
-  pub gives : Gives rows (tested_said said)
+refused_row : (P : ℕ → Type 0) (f : Option ℕ) (k : Kind) (r : Refusal) → Finds P f → refused_at f k ≡ Err r → First (row (number_of k) P ∷ []) (number_of r.kind) r.place
+refused_row P (Some x) k r h e =
+    let is : record { kind = k; place = x } ≡ r = cc in
+    subst (λ (q : Refusal). First (row (number_of k) P ∷ []) (number_of q.kind) q.place) is (inl (refl, h))
+refused_row P nothing k r h e = absurd (cc)
 
--- of no rows nothing is said
-pub so_far : Given [] Passed
-so_far = record { gives = tt }
+passed_row : (P : ℕ → Type 0) (f : Option ℕ) (k : Kind) (u : Unit {0}) → Finds P f → refused_at f k ≡ Ok u → NoPlace P
+passed_row P (Some x) k u h e = absurd (cc)
+passed_row P nothing k u h e = h
 
-one_more : (rows : List Row) (P : ℕ → Type 0) (said : Tested) (f : Found) (k : Kind) → Gives rows (tested_said said) → Finds P f → Gives (rows ++ (row (number_of k) P ∷ [])) (tested_said (or_of said f k))
-one_more rows P (Refused r) f k g h = first_left rows _ _ _ g
-one_more rows P Passed (At x) k g h = first_right rows _ _ x g (inl (refl, h))
-one_more rows P Passed Nowhere k g h = none_append rows _ g (h, tt)
+-- the test's own row, where it refuses, and where it passes
+pub row_refused : (P : ℕ → Type 0) {f : Option ℕ} {k : Kind} {t : Result Unit Refusal} {r : Refusal} → Refuses f k t → Finds P f → t ≡ Err r → First (row (number_of k) P ∷ []) (number_of r.kind) r.place
+row_refused P {f} {k} {t} {r} s h e = refused_row P f k r h (sym s.is ∙ e)
 
--- one row more
-pub also :
-    (P : ℕ → Type 0) {rows : List Row} {said : Tested} {f : Found} {k : Kind} {r : Tested} → Joins said f k r →
-    Given rows said → Finds P f → Given (rows ++ (row (number_of k) P ∷ [])) r
-also P {rows} {said} {f} {k} {r} e g h =
-    record { gives = subst (λ (q : Tested). Gives (rows ++ (row (number_of k) P ∷ [])) (tested_said q)) (sym e.is) (one_more rows P said f k g.gives h) }
+pub row_passed : (P : ℕ → Type 0) {f : Option ℕ} {k : Kind} {t : Result Unit Refusal} {u : Unit {0}} → Refuses f k t → Finds P f → t ≡ Ok u → NoPlace P
+row_passed P {f} {k} {t} {u} s h e = passed_row P f k u h (sym s.is ∙ e)
+
+-- Rows that have passed, then a test's own: its refusal is the first of all, whatever rows follow, and the last row decides.
+
+pub row_first : (rows : List Row) (P : ℕ → Type 0) (more : List Row) {f : Option ℕ} {k : Kind} {t q : Result Unit Refusal} {r : Refusal} → None rows → Refuses f k t → Finds P f → t ≡ Err r → q ≡ Err r → Gives (rows ++ (row (number_of k) P ∷ more)) (tested_said q)
+row_first rows P more {k = k} {r = r} n s h e d =
+    subst (λ (q : Result Unit Refusal). Gives (rows ++ (row (number_of k) P ∷ more)) (tested_said q)) (sym d) (first_right rows (row (number_of k) P ∷ more) (number_of r.kind) r.place n (first_left (row (number_of k) P ∷ []) more (number_of r.kind) r.place (row_refused P s h e)))
+
+row_gives : (P : ℕ → Type 0) (f : Option ℕ) (k : Kind) → Finds P f → Gives (row (number_of k) P ∷ []) (tested_said (refused_at f k))
+row_gives P (Some x) k h = inl (refl, h)
+row_gives P nothing k h = (h, tt)
 
 -- rows that have passed, and more: what is said of those is said of all
-gives_later : (rows more : List Row) (r : Tested) → None rows → Gives more (tested_said r) → Gives (rows ++ more) (tested_said r)
-gives_later rows more Passed n g = none_append rows more n g
-gives_later rows more (Refused q) n g = first_right rows more (number_of q.kind) q.place n g
+pub later : (rows more : List Row) (t : Result Unit Refusal) → None rows → Gives more (tested_said t) → Gives (rows ++ more) (tested_said t)
+later rows more (Ok u) n g = none_append rows more n g
+later rows more (Err q) n g = first_right rows more (number_of q.kind) q.place n g
 
-pub later : (rows : List Row) {more : List Row} {r : Tested} → None rows → Given more r → Given (rows ++ more) r
-later rows {more} {r} n g = record { gives = gives_later rows more r n g.gives }
+pub row_last : (rows : List Row) (P : ℕ → Type 0) {f : Option ℕ} {k : Kind} {t : Result Unit Refusal} → None rows → Refuses f k t → Finds P f → Gives (rows ++ (row (number_of k) P ∷ [])) (tested_said t)
+row_last rows P {f} {k} {t} n s h =
+    later rows (row (number_of k) P ∷ []) t n (subst (λ (q : Result Unit Refusal). Gives (row (number_of k) P ∷ []) (tested_said q)) (sym s.is) (row_gives P f k h))
 
--- what is said next is said of more rows
-gives_next : (rows more : List Row) (said next : Tested) → Gives rows (tested_said said) → Gives more (tested_said next) → Gives (rows ++ more) (tested_said (then_of said next))
-gives_next rows more Passed next n g = gives_later rows more next n g
-gives_next rows more (Refused q) next f g = first_left rows more (number_of q.kind) q.place f
+-- what was refused among the first rows is the first of all, and what passed leaves none of them
 
-pub and_then : {rows more : List Row} {said next r : Tested} → Follows said next r → Given rows said → Given more next → Given (rows ++ more) r
-and_then {rows} {more} {said} {next} e g h =
-    record { gives = subst (λ (t : Tested). Gives (rows ++ more) (tested_said t)) (sym e.is) (gives_next rows more said next g.gives h.gives) }
+pub refused_front : (rows more : List Row) {t q : Result Unit Refusal} {r : Refusal} → Gives rows (tested_said t) → t ≡ Err r → q ≡ Err r → Gives (rows ++ more) (tested_said q)
+refused_front rows more {r = r} g e d =
+    let f : First rows (number_of r.kind) r.place = subst (λ (q : Result Unit Refusal). Gives rows (tested_said q)) e g in
+    subst (λ (q : Result Unit Refusal). Gives (rows ++ more) (tested_said q)) (sym d) (first_left rows more (number_of r.kind) r.place f)
 
--- a refusal stays the first, whatever rows follow
-pub whatever : (more : List Row) {rows : List Row} {said : Tested} {q : Refusal} → said ≡ Refused q → Given rows said → First (rows ++ more) (number_of q.kind) q.place
-whatever more {rows} {q = q} e g = first_left rows more (number_of q.kind) q.place (subst (λ (t : Tested). Gives rows (tested_said t)) e g.gives)
-
--- nothing was refused: no row applies
-pub passed : {rows : List Row} {said : Tested} → said ≡ Passed → Given rows said → None rows
-passed {rows} e g = subst (λ (t : Tested). Gives rows (tested_said t)) e g.gives
-
--- What a caller knows that has looked at what was said.
-
-pub tested_refused : (rows : List Row) {t : Tested} {r : Refusal} → t ≡ Refused r → Gives rows (tested_said t) → First rows (number_of r.kind) r.place
-tested_refused rows e g = subst (λ (t : Tested). Gives rows (tested_said t)) e g
-
-pub tested_passed : (rows : List Row) {t : Tested} → t ≡ Passed → Gives rows (tested_said t) → None rows
-tested_passed rows e g = subst (λ (t : Tested). Gives rows (tested_said t)) e g
+pub passed_front : (rows : List Row) {t : Result Unit Refusal} {u : Unit {0}} → Gives rows (tested_said t) → t ≡ Ok u → None rows
+passed_front rows g e = subst (λ (q : Result Unit Refusal). Gives rows (tested_said q)) e g

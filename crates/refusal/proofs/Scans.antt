@@ -5,8 +5,7 @@ use borrow.Author.Count.{below_more}
 use mathlib.Core.Path.{◌≡◌, subst}
 use Rattle.refusal.specs.promise.Row.{Lowest, NoPlace}
 use Rattle.refusal.specs.parts.Found.{Finds, Scanned}
-use Rattle.refusal.specs.declared.Found.{Found}
-use Rattle.refusal.specs.declared.Found.TheVariants.{At, Nowhere}
+use Rattle.std.specs.Prelude.{Option, Some, None}
 
 -- nothing is passed at the start
 pub scan_none : {P : ℕ → Type 0} → Scanned P 0
@@ -25,9 +24,9 @@ pub scan_all : {P : ℕ → Type 0} {i : ℕ} → Scanned P i → ((x : ℕ) →
 scan_all s within x p = s.clear x (within x p) p
 
 -- a place was found
-pub found_at : (P : ℕ → Type 0) {f : Found} {x : ℕ} → f ≡ At x → Finds P f → Lowest P x
+pub found_at : (P : ℕ → Type 0) {f : Option ℕ} {x : ℕ} → f ≡ Some x → Finds P f → Lowest P x
 found_at P e h = subst (Finds P) e h
 
 -- none was found
-pub found_nowhere : (P : ℕ → Type 0) {f : Found} → f ≡ Nowhere → Finds P f → NoPlace P
+pub found_nowhere : (P : ℕ → Type 0) {f : Option ℕ} → f ≡ None → Finds P f → NoPlace P
 found_nowhere P e h = subst (Finds P) e h

@@ -1,61 +1,61 @@
 // Every refusal carries its kind, an enum that gives its number, and its place. docs/RULES.md has the table.
 #![tactic(auto)]
 
-ghost use Rattle.std.specs.Prelude.{◌≡◌, ◌+◌, ◌<◌};
+ghost use Rattle.std.specs.Prelude.{◌≡◌, ◌+◌};
 ghost use Rattle.refusal.specs.promise.Number.{number_of, table_number, answer_number, file_number};
-ghost use Rattle.refusal.specs.parts.Found.{Joins, Follows};
+ghost use Rattle.refusal.specs.parts.Found.{Refuses};
 
 // What is wrong with a game's tables: 1 to 7, and 21 to 27 of the second game.
-#[derive(Drop)]
+#[derive(Clone, Copy, Debug, PartialEq, Eq)]
 pub enum TableFault {
     // 1: no vertex, too many, or lengths that do not fit one another.
-    Sizes,
+    Sizes = 1,
     // 2: an owner is neither Even nor Odd.
-    Owner,
+    Owner = 2,
     // 3: a priority is 255.
-    Priority,
+    Priority = 3,
     // 4: the starts do not cut the targets into stretches.
-    Start,
+    Start = 4,
     // 5: a vertex has no successor.
-    Stuck,
+    Stuck = 5,
     // 6: a target is no vertex.
-    Target,
+    Target = 6,
     // 7: a stretch does not ascend.
-    Order,
+    Order = 7,
 }
 
 // What is wrong with an answer: 11 to 14.
-#[derive(Drop)]
+#[derive(Clone, Copy, Debug, PartialEq, Eq)]
 pub enum AnswerFault {
     // 11: a mark is neither 0 nor 1.
-    Mark,
+    Mark = 11,
     // 12: a recorded move is wrong.
-    Move,
+    Move = 12,
     // 13: a loser's vertex has a successor with the other mark.
-    Escape,
+    Escape = 13,
     // 14: a cycle by the recorded moves is lost.
-    Cycle,
+    Cycle = 14,
 }
 
 // What is wrong with a file, or with the output lent for one: 41 to 46.
-#[derive(Drop)]
+#[derive(Clone, Copy, Debug, PartialEq, Eq)]
 pub enum FileFault {
     // 41: its length.
-    Length,
+    Length = 41,
     // 42: a block's check.
-    Check,
+    Check = 42,
     // 43: a block's number or kind.
-    Kind,
+    Kind = 43,
     // 44: another byte of a block.
-    Bytes,
+    Bytes = 44,
     // 45: the sum of the successor counts.
-    Edges,
+    Edges = 45,
     // 46: the lent output is not as long as the file.
-    Output,
+    Output = 46,
 }
 
 // What a refusal is given for, by family.
-#[derive(Drop)]
+#[derive(Clone, Copy, Debug, PartialEq, Eq)]
 pub enum Kind {
     // 1 to 7.
     Game(TableFault),
@@ -71,91 +71,19 @@ pub enum Kind {
     Filed(FileFault),
 }
 
-#[derive(Drop)]
+#[derive(Clone, Copy, Debug, PartialEq, Eq)]
 pub struct Refusal {
     pub kind: Kind,
     pub place: usize,
 }
 
-// What a test of one row finds: the lowest place at which the row applies, or that it applies nowhere.
-#[derive(Drop)]
-pub enum Found {
-    At(usize),
-    Nowhere,
-}
-
-// What tests say: none of their rows applies, or the first that does.
-#[derive(Drop)]
-pub enum Tested {
-    Passed,
-    Refused(Refusal),
-}
-
-// What was said so far, or else the refusal for what is found.
-pub fn or(said: Tested, found: Found, kind: Kind) -> Tested
-    ensures { Joins said found kind result }
+// The refusal for what a test of one row finds: the lowest place at which the row applies, if any.
+pub fn refuse(found: Option<usize>, kind: Kind) -> Result<(), Refusal>
+    ensures { Refuses found kind result }
 {
-    if let Tested::Refused(r) = said {
-        return Tested::Refused(r);
-    }
     match found {
-        Found::At(place) => Tested::Refused(Refusal { kind, place }),
-        Found::Nowhere => Tested::Passed,
-    }
-}
-
-// What was said so far, or else what is said next.
-pub fn then(said: Tested, next: Tested) -> Tested
-    ensures { Follows said next result }
-{
-    match said {
-        Tested::Refused(r) => Tested::Refused(r),
-        Tested::Passed => next,
-    }
-}
-
-fn of_table(fault: TableFault) -> u64
-    ensures named { result ≡ table_number fault }
-    ensures small { result < 8 }
-{
-    match fault {
-        TableFault::Sizes => 1,
-        TableFault::Owner => 2,
-        TableFault::Priority => 3,
-        TableFault::Start => 4,
-        TableFault::Stuck => 5,
-        TableFault::Target => 6,
-        TableFault::Order => 7,
-    }
-}
-
-fn of_second(fault: TableFault) -> u64
-    ensures { result ≡ 20 + table_number fault }
-{
-    20 + of_table(fault)
-}
-
-fn of_answer(fault: AnswerFault) -> u64
-    ensures { result ≡ answer_number fault }
-{
-    match fault {
-        AnswerFault::Mark => 11,
-        AnswerFault::Move => 12,
-        AnswerFault::Escape => 13,
-        AnswerFault::Cycle => 14,
-    }
-}
-
-fn of_file(fault: FileFault) -> u64
-    ensures { result ≡ file_number fault }
-{
-    match fault {
-        FileFault::Length => 41,
-        FileFault::Check => 42,
-        FileFault::Kind => 43,
-        FileFault::Bytes => 44,
-        FileFault::Edges => 45,
-        FileFault::Output => 46,
+        Some(place) => Err(Refusal { kind, place }),
+        None => Ok(()),
     }
 }
 
@@ -164,11 +92,11 @@ pub fn number(kind: Kind) -> u64
     ensures { result ≡ number_of kind }
 {
     match kind {
-        Kind::Game(fault) => of_table(fault),
+        Kind::Game(fault) => fault as u64,
         Kind::Buffer => 8,
         Kind::Vertices => 9,
-        Kind::Claim(fault) => of_answer(fault),
-        Kind::Second(fault) => of_second(fault),
-        Kind::Filed(fault) => of_file(fault),
+        Kind::Claim(fault) => fault as u64,
+        Kind::Second(fault) => 20 + fault as u64,
+        Kind::Filed(fault) => fault as u64,
     }
 }

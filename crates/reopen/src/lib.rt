@@ -13,12 +13,6 @@ use storage::Winner;
 use storage::answer::set_mark;
 use waiting::stand;
 
-fn least(a: usize, b: usize) -> usize
-    ensures { (result ≤ a) × (result ≤ b) }
-{
-    if a < b { a } else { b }
-}
-
 // Opens u, which waits in its line from now on.
 fn open_again(n: usize, u: usize, priorities: &[u8], desk: &mut [u16], work: &mut [u16])
     requires { Standable n u priorities.now (desk_of desk.old) work.old }
@@ -42,14 +36,12 @@ pub fn reopen(
     ensures { Reopened n priorities.now (desk_of desk.old) winners.old work.old from (desk_of desk.new) winners.new work.new result }
 {
     let mut low = from;
-    let mut i = 0;
-    while i < tail {
+    for i in 0..tail {
         let u = wide(queued(n, i, work));
         let p = priorities[u];
-        set_mark(winners, u, Player::of_priority(p).bit);
+        set_mark(winners, u, u8::from(Player::of_priority(p)));
         open_again(n, u, priorities, desk, work);
-        low = least(low, p as usize);
-        i += 1;
+        low = low.min(p as usize);
     }
     low
 }

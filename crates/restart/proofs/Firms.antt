@@ -1,17 +1,16 @@
 -- Making the unreached vertices firm one by one.
-use Prim.Native.Nat.{ℕ, ◌+◌, ◌<◌, ◌≤◌}
+use Prim.Native.Nat.{ℕ, ◌+◌, ◌<◌}
 use mathlib.Core.Path.{◌≡◌, ap, subst, ◌∙◌}
 use mathlib.Core.Logic.{◌≢◌}
 use mathlib.Core.List.{List}
 use native.Mathlib.Omega.{arith}
 use native.Mathlib.Decide.{ℕ_discrete}
-use native.Mathlib.Nat.{not-suc-le-zero}
 use lib.ListN.{get_or}
-use Rattle.space.specs.parts.Work.{section, Cell}
+use Rattle.space.specs.parts.Work.{section}
 use Rattle.space.specs.parts.Desk.{Desk, Laid, put_level}
 use Rattle.levels.specs.parts.Levels.{level_of, LevelSet, LevelsOnly}
-use Rattle.levels.proofs.Floors.{level_set, level_only, levels_none, levels_more}
-use Rattle.restart.specs.parts.Restarting.{Firmable, Firmed}
+use Rattle.levels.proofs.Floors.{level_set, level_only, levels_more}
+use Rattle.restart.specs.parts.Restarting.{Firmable}
 
 -- the unreached vertices below v have a level above all priorities, and only levels have changed
 pub record Firming (n : ℕ) (d₀ : Desk) (work : List ℕ) (d : Desk) (v : ℕ) : Type 0 where
@@ -19,13 +18,6 @@ pub record Firming (n : ℕ) (d₀ : Desk) (work : List ℕ) (d : Desk) (v : ℕ
   pub firm : (u : ℕ) → u < n → u < v → get_or (section 1 n work) u 0 ≡ 0 → level_of d.levels u ≡ 256
 
 module _ {n : ℕ} {d₀ : Desk} {work : List ℕ} (p : Firmable n d₀ work) where
-  pub firming_none : Firming n d₀ work d₀ 0
-  firming_none = record { levels_only = levels_none p.laid; firm = λ u l h. absurd (not-suc-le-zero h) }
-
-  -- v has its cells
-  pub firming_cell : {v : ℕ} → v < n → Cell n v work
-  firming_cell l = record { small = p.small; long = p.long; within = l }
-
   module _ {d : Desk} {v : ℕ} (s : Firming n d₀ work d v) where
     -- and a level
     pub firming_room : v < n → Laid d × (v < 2048)
@@ -50,6 +42,3 @@ module _ {n : ℕ} {d₀ : Desk} {work : List ℕ} {d : Desk} {v : ℕ} (s : Fir
         levels_only = s.levels_only;
         firm = λ u h less z. elim (ℕ_discrete u v) [ yes e ↦ absurd (o (is ∙ subst (λ (k : ℕ). get_or (section 1 n work) k 0 ≡ 0) e z)) | no ne ↦ s.firm u h (omega arith) z ];
       }
-
-  pub firming_all : n ≤ v → Firmed n d₀ work d
-  firming_all l = record { levels_only = s.levels_only; firm = λ u h z. s.firm u h (omega arith) z }

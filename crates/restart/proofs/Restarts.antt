@@ -7,21 +7,18 @@ use native.Mathlib.Omega.{arith}
 use lib.ListN.{length, get_or}
 use Rattle.space.specs.parts.Work.{section}
 use Rattle.space.specs.parts.Desk.{Desk}
-use Rattle.reach.specs.parts.Queue.{ClosableIn, ClosedIn, ClearableIn, ClearedIn}
+use Rattle.reach.specs.parts.Queue.{ClosableIn, ClosedIn, ClearedIn}
 use Rattle.space.proofs.Sections.{section_long}
 use Rattle.waiting.specs.parts.Lines.{Lines}
 use Rattle.waiting.proofs.Standings.{standing_lines}
 use Rattle.reopen.specs.parts.Reopening.{Reopenable, Reopened}
-use Rattle.restart.specs.parts.Restarting.{OpenSeedable, SeededAll, Firmable, Firmed, Restartable, RestartedIn}
+use Rattle.restart.specs.parts.Restarting.{SeededAll, Firmed, Restartable, RestartedIn}
 use Rattle.restart.proofs.Reaches.{open_reached}
 
 module _
     {n : ℕ} {priorities ins froms : List ℕ} {d : Desk} {winners work : List ℕ}
     (p : Restartable n priorities ins froms d winners work)
   where
-    pub seedable : OpenSeedable n work
-    seedable = record { small = p.standing.small; long = p.standing.work_long; unreached = p.unreached }
-
     module _ {work₁ : List ℕ} {tail : ℕ} (s : SeededAll n work work₁ tail) where
       pub closable : {moves : List ℕ} → ClosableIn n ins froms moves work₁ tail
       closable =
@@ -55,12 +52,6 @@ module _
         module _ {from least : ℕ} {d₃ : Desk} {winners' work₃ : List ℕ} (r : Reopened n priorities d winners work₂ from d₃ winners' work₃ least) where
           long : length work₃ ≡ 4 * n
           long = r.long ∙ reopenable.standing.work_long
-
-          pub firmable : Firmable n d₃ work₃
-          firmable = record { small = p.standing.small; laid = r.lines_only.laid; long = long }
-
-          pub clearable : ClearableIn n work₃ end
-          clearable = record { long = long; small = p.standing.small; queued = rw (r.reached, r.queue) c.closed.queued }
 
           module _ {work' : List ℕ} (x : ClearedIn n work₃ work') where
             -- the flags are those after the reopening

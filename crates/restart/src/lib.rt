@@ -17,12 +17,10 @@ fn seed_open(n: usize, work: &mut [u16]) -> usize
     ensures { SeededAll n work.old work.new result }
 {
     let mut tail = 0;
-    let mut v = 0;
-    while v < n {
+    for v in 0..n {
         if flag(n, v, work) != 0 {
             tail = seed(n, v, work, tail);
         }
-        v += 1;
     }
     tail
 }
@@ -32,12 +30,10 @@ fn make_firm(n: usize, desk: &mut [u16], work: &[u16])
     requires { Firmable n (desk_of desk.old) work.now }
     ensures { Firmed n (desk_of desk.old) work.now (desk_of desk.new) }
 {
-    let mut v = 0;
-    while v < n {
+    for v in 0..n {
         if reached(n, v, work) == 0 {
             set_level(v, 256, desk);
         }
-        v += 1;
     }
 }
 

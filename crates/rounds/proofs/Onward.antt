@@ -11,8 +11,8 @@ use Rattle.draw.specs.parts.Drawing.{Drawn}
 use Rattle.pile.proofs.Piles.{piled_none}
 use Rattle.orders.specs.declared.Ended.{Ended}
 use Rattle.orders.specs.parts.Ending.{Ran}
-use Rattle.restart.specs.parts.Restarting.{Restartable, RestartedIn}
-use Rattle.restart.proofs.Moves.{restartable, restarted_moved}
+use Rattle.restart.specs.parts.Restarting.{RestartedIn}
+use Rattle.restart.proofs.Moves.{restarted_moved}
 use Rattle.rounds.specs.parts.Settled.{SettledTo}
 
 module _
@@ -20,9 +20,6 @@ module _
     (y : Drawn 0 tables ins froms winners₀ moves₀ work₀ d winners moves work)
     (x : Ran tables ins froms winners moves work d₁ winners₁ moves₁ work₁ r)
   where
-    pub round_restartable : Restartable (length tables.priorities) tables.priorities ins froms d₁ winners₁ work₁
-    round_restartable = restartable x.moved.engine
-
     pub round_again :
         {d₂ : Desk} {winners₂ work₂ : List ℕ} →
         RestartedIn (length tables.priorities) tables.priorities ins froms moves₁ winners₁ work₁ d₂ winners₂ work₂ →

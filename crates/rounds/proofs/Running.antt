@@ -1,5 +1,5 @@
 -- When nothing is open the answer is accepted, and no line of a kept set has changed.
-use Prim.Native.Nat.{ℕ, ◌<◌}
+use Prim.Native.Nat.{ℕ}
 use mathlib.Core.Path.{◌≡◌, sym, subst, ◌∙◌}
 use mathlib.Core.List.{List}
 use Rattle.game.specs.promise.Tables.{game_of, Tables, vertices}
@@ -10,10 +10,10 @@ use Rattle.space.specs.parts.Desk.{Desk}
 use Rattle.waiting.specs.parts.Open.{AllSettled}
 use Rattle.levels.specs.parts.Levels.{settled_of}
 use Rattle.levels.proofs.Flags.{flag_settled}
-use Rattle.step.specs.parts.Stepping.{Engine, Moved, Falls}
+use Rattle.step.specs.parts.Stepping.{Engine, Moved}
 use Rattle.orders.specs.declared.Ended.{Ended}
-use Rattle.orders.specs.declared.Ended.TheVariants.{Done, Spent}
-use Rattle.orders.specs.parts.Ending.{Ends, Ran, Fell}
+use Rattle.orders.specs.declared.Ended.TheVariants.{Done}
+use Rattle.orders.specs.parts.Ending.{Ends, Ran}
 use Rattle.rounds.specs.parts.Settled.{SettledTo}
 
 module _
@@ -38,8 +38,3 @@ pub ran_done :
     {tables : Tables} {ins froms winners moves work : List ℕ} {d' : Desk} {winners' moves' work' : List ℕ} {r : Ended} → r ≡ Done →
     Ran tables ins froms winners moves work d' winners' moves' work' r → AllSettled (vertices tables) (section 0 (vertices tables) work')
 ran_done {tables} {work' = work'} h x = subst (Ends (vertices tables) (section 0 (vertices tables) work')) h x.ends
-
-pub ran_spent :
-    {budget : ℕ} {tables : Tables} {winners work winners' work' : List ℕ} {r : Ended} → r ≡ Spent → 0 < budget →
-    Fell budget tables winners work winners' work' r → Falls tables winners work winners' work'
-ran_spent {budget} {tables} {winners} {work} {winners'} {work'} h l x = subst (Fell budget tables winners work winners' work') h x l

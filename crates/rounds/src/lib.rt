@@ -2,7 +2,6 @@
 // that is not decided for good is opened again. Which order begins, and the budgets, decide only how soon the answer is there.
 #![tactic(auto)]
 
-ghost use Rattle.std.specs.Prelude.{◌+◌, ◌<◌, ◌≤◌};
 ghost use Rattle.game.specs.promise.Lent.{asked, lent};
 ghost use Rattle.space.specs.parts.Desk.{Laid, desk_of};
 ghost use Rattle.step.specs.parts.Stepping.{Engine};
@@ -10,49 +9,26 @@ ghost use Rattle.draw.specs.parts.Drawing.{Drainable};
 ghost use Rattle.rounds.specs.parts.Settled.{SettledTo};
 
 use game::NONE;
-use one_round::round;
+use one_round::{Order, round};
 use orders::Ended;
 use orders::lowest::lowest;
 use restart::restart;
 use space::desk::first;
 use storage::Winner;
 
-// One line more, if somebody stands in it.
-fn counted(used: usize, first: u16) -> usize
-    requires { used < 256 }
-    ensures { result ≤ used + 1 }
-{
-    if first == NONE { used } else { used + 1 }
-}
-
 // How many priorities have somebody in their line.
 fn lines_used(desk: &[u16]) -> usize
     requires { Laid (desk_of desk.now) }
 {
-    let mut used = 0;
-    let mut k: usize = 0;
-    while k < 256 {
-        used = counted(used, first(k, desk));
-        k += 1;
-    }
-    used
+    (0..256).filter(|&k| first(k, desk) != NONE).count()
 }
 
 // Attraction begins where there are many priorities: on random games it then visits an eighth of the edges. With few, lowest first visits fewer.
-fn begins_with(used: usize) -> usize {
-    if 6 < used { 1 } else { 0 }
-}
-
-fn the_other(order: usize) -> usize {
-    if order == 0 { 1 } else { 0 }
-}
-
-// Twice the budget, until it is beyond what anybody waits for.
-fn doubled(budget: usize) -> usize {
-    if budget < 1099511627776 {
-        2 * budget
+fn begins_with(used: usize) -> Order {
+    if 6 < used {
+        Order::Attraction
     } else {
-        budget
+        Order::Lowest
     }
 }
 
@@ -100,8 +76,7 @@ pub fn run(
 {
     let mut order = begins_with(lines_used(desk));
     let mut budget = 16 * owners.len();
-    let mut i: usize = 0;
-    while i < 32 {
+    for _ in 0..32 {
         let ended = round(
             order, budget, owners, priorities, starts, targets, ins, froms, desk, winners, moves,
             work,
@@ -110,9 +85,8 @@ pub fn run(
             return;
         }
         restart(priorities, ins, froms, moves, desk, winners, work);
-        order = the_other(order);
-        budget = doubled(budget);
-        i += 1;
+        order = order.other();
+        budget = budget.saturating_mul(2);
     }
     finish(
         owners, priorities, starts, targets, ins, froms, desk, winners, moves, work,

@@ -5,10 +5,12 @@ use mathlib.Core.Logic.{◌≢◌}
 use mathlib.Core.List.{[]}
 use native.Mathlib.Omega.{arith}
 use lib.ListN.{length, get_or}
+use Rattle.std.specs.Prelude.{Result, Ok, Err}
+use Rattle.refusal.specs.declared.Refusal.{Refusal}
 use Rattle.refusal.specs.promise.Row.{Said, success, refused}
-use Rattle.refusal.specs.promise.Number.{number_of}
+use Rattle.refusal.specs.promise.Number.{number_of, tested_said}
 use Rattle.refusal.proofs.Rows.{first_not_none, first_unique}
-use Rattle.refusal.proofs.Numbers.{refusal_unique}
+use Rattle.refusal.proofs.Numbers.{result_unique}
 use Rattle.game.specs.promise.Tables.{Tables, vertices, game_of, WellFormed}
 use Rattle.storage.specs.promise.Answer.{Answer, mark_of, move_of}
 use Rattle.game.specs.promise.Lent.{Fit}
@@ -19,9 +21,7 @@ use Rattle.storage.proofs.Zeros.{zeroed_unique}
 use Rattle.storage.proofs.Passed.{lent_formed, lent_fit, lent_fits}
 use Rattle.winning.specs.promise.Answer.{Right}
 use Rattle.winning.proofs.Solutions.{solution_right, solutions_same}
-use Rattle.solver.specs.declared.Solved.{Solved}
-use Rattle.solver.specs.declared.Solved.TheVariants as solved
-use Rattle.solver.specs.promise.Solving.{solved_said, solve_rows, IsSolution, Solves}
+use Rattle.solver.specs.promise.Solving.{solve_rows, IsSolution, Solves}
 
 -- the same winners, and the same moves but where the winner owns
 pub record SameLines (t : Tables) (a b : Answer) : Type 0 where
@@ -34,13 +34,6 @@ pub record Same (t : Tables) (x y : Lent) (a b : Said) : Type 0 where
   pub lines : SameLines t x.answer y.answer
   pub work : x.work ≡ y.work
   pub refused_same : (k p : ℕ) → a ≡ refused k p → x ≡ y
-
--- what is said determines the answer
-said_unique : (a b : Solved) → solved_said a ≡ solved_said b → a ≡ b
-said_unique solved.Done solved.Done e = refl
-said_unique solved.Done (solved.Refused r) e = let z : ◌≡◌ {A = ℕ} 0 1 = cc in absurd (omega arith)
-said_unique (solved.Refused q) solved.Done e = let z : ◌≡◌ {A = ℕ} 0 1 = cc in absurd (omega arith)
-said_unique (solved.Refused q) (solved.Refused r) e = ap solved.Refused (refusal_unique q r e)
 
 -- two solutions of a well-formed game, in lists of its length
 pub solutions_lines :
@@ -76,8 +69,8 @@ module _ (t : Tables) (before : Lent) (bytes : (v : ℕ) → get_or t.priorities
       }
 
   -- so no second answer satisfies the promise
-  pub answer_unique : (x y : Lent) (a b : Solved) → Solves t before x (solved_said a) → Solves t before y (solved_said b) → a ≡ b
-  answer_unique x y a b r s = said_unique a b (solves_unique x y (solved_said a) (solved_said b) r s).said
+  pub answer_unique : (x y : Lent) (a b : Result Unit Refusal) → Solves t before x (tested_said a) → Solves t before y (tested_said b) → a ≡ b
+  answer_unique x y a b r s = result_unique a b (solves_unique x y (tested_said a) (tested_said b) r s).said
 
   -- what is written is right, as the checker has it
   pub solved_right : (x : Lent) → Solves t before x (success []) → Right (game_of t) (mark_of x.answer.winners) (move_of x.answer.moves)
@@ -87,8 +80,8 @@ module _ (t : Tables) (before : Lent) (bytes : (v : ℕ) → get_or t.priorities
 
   -- each well-formed game with buffers that fit is solved
   pub well_formed_solved :
-      (x : Lent) (a : Solved) → WellFormed t → Fit (lent_sizes (vertices t) (length before.answer.winners) (length before.answer.moves) (length before.work)) →
-      Solves t before x (solved_said a) → a ≡ solved.Done
-  well_formed_solved x solved.Done w f r = refl
-  well_formed_solved x (solved.Refused q) w f r =
+      (x : Lent) (a : Result Unit Refusal) → WellFormed t → Fit (lent_sizes (vertices t) (length before.answer.winners) (length before.answer.moves) (length before.work)) →
+      Solves t before x (tested_said a) → a ≡ Ok tt
+  well_formed_solved x (Ok u) w f r = refl
+  well_formed_solved x (Err q) w f r =
       absurd (first_not_none (solve_rows t before) (number_of q.kind) q.place r.first (lent_fits t _ _ _ w f))

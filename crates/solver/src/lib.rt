@@ -1,27 +1,21 @@
 // The solver: winners and moves of a game, by fixpoint iteration with justifications, one vertex at a time.
 #![tactic(auto)]
 
+ghost use Rattle.refusal.specs.promise.Number.{tested_said};
 ghost use Rattle.game.specs.promise.Lent.{asked, lent};
 ghost use Rattle.storage.specs.promise.Lent.{buffers, given, left};
-ghost use Rattle.solver.specs.promise.Solving.{Solves, Written, solved_said};
+ghost use Rattle.solver.specs.promise.Solving.{Solves, Written};
 ghost use Rattle.solver.specs.parts.Answering.{Answerable};
 
 use engine::settle;
 use game::EDGES;
 use preds::INS;
 use preds::build::predecessors;
-use refusal::{Refusal, Tested};
+use refusal::Refusal;
 use space::fill::fill;
 use start::fresh::open_all;
 use storage::Winner;
 use tables::lent::test_lent;
-
-// Solved, or the first of 1 to 8 that applies.
-#[derive(Drop)]
-pub enum Solved {
-    Done,
-    Refused(Refusal),
-}
 
 // Solves a game that has passed 1 to 8: the start with nothing kept, then the engine.
 fn answer(
@@ -55,10 +49,10 @@ pub fn solve(
     winners: &mut [Winner],
     moves: &mut [u16],
     work: &mut [u16],
-) -> Solved
-    ensures { Solves (lent owners priorities starts targets) (given winners moves work) (left winners moves work) (solved_said result) }
+) -> Result<(), Refusal>
+    ensures { Solves (lent owners priorities starts targets) (given winners moves work) (left winners moves work) (tested_said result) }
 {
-    let tested = test_lent(
+    test_lent(
         owners,
         priorities,
         starts,
@@ -66,10 +60,7 @@ pub fn solve(
         winners.len(),
         moves.len(),
         work.len(),
-    );
-    if let Tested::Refused(r) = tested {
-        return Solved::Refused(r);
-    }
+    )?;
     answer(owners, priorities, starts, targets, winners, moves, work);
-    Solved::Done
+    Ok(())
 }

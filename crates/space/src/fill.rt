@@ -6,9 +6,5 @@ pub fn fill(cells: &mut [u16], value: u16)
     ensures long { length cells.new ≡ length cells.old }
     ensures filled { Filled cells.new value }
 {
-    let mut i = 0;
-    while i < cells.len() {
-        cells[i] = value;
-        i += 1;
-    }
+    cells.fill(value);
 }

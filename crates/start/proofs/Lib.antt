@@ -1,2 +1,1 @@
-pub mod Preparing
 pub mod Opening

@@ -1,20 +1,19 @@
 -- The vertices below v are open, with their own parity's marks, and not reached by a closure.
-use Prim.Native.Nat.{ℕ, ◌+◌, ◌*◌, ◌<◌, ◌≤◌}
-use mathlib.Core.Path.{◌≡◌, refl, sym, ap, subst, ◌∙◌}
+use Prim.Native.Nat.{ℕ, ◌+◌, ◌*◌, ◌<◌}
+use mathlib.Core.Path.{◌≡◌, sym, ap, subst, ◌∙◌}
 use mathlib.Core.Logic.{◌≢◌}
 use mathlib.Core.List.{List}
 use native.Mathlib.Omega.{arith}
 use native.Mathlib.Decide.{ℕ_discrete}
-use native.Mathlib.Nat.{not-suc-le-zero}
 use lib.ListN.{length, get_or, set}
 use lib.Seq.{get_or-set_same, get_or-set_other}
 use Rattle.player.specs.promise.Player.{parity_of}
 use Rattle.storage.specs.promise.Answer.{mark_room, mark_of}
 use Rattle.storage.specs.parts.Answers.{MarkSet}
-use Rattle.space.specs.parts.Work.{section, Cell, CellSet}
+use Rattle.space.specs.parts.Work.{section, CellSet}
 use Rattle.storage.proofs.Stores.{has_room, still_stored}
 use Rattle.space.proofs.Sections.{section_long}
-use Rattle.start.specs.parts.Opening.{Startable, AllOpen}
+use Rattle.start.specs.parts.Opening.{Startable}
 
 pub record Opening (priorities winners work winners' work' : List ℕ) (v : ℕ) : Type 0 where
   pub winners_long : length winners' ≡ length winners
@@ -23,26 +22,11 @@ pub record Opening (priorities winners work winners' work' : List ℕ) (v : ℕ)
   pub flag : (u : ℕ) → u < v → get_or (section 0 (length priorities) work') u 0 ≡ 1
   pub unreached : (u : ℕ) → u < v → get_or (section 1 (length priorities) work') u 0 ≡ 0
 
-pub opening_none : {priorities winners work : List ℕ} → Opening priorities winners work winners work 0
-opening_none =
-    record {
-      winners_long = refl;
-      long = refl;
-      mark = λ u l. absurd (not-suc-le-zero l);
-      flag = λ u l. absurd (not-suc-le-zero l);
-      unreached = λ u l. absurd (not-suc-le-zero l);
-    }
-
--- the vertex whose turn it is has a mark and a cell in each section
-module _ {priorities winners work winners₁ work₁ : List ℕ} {v : ℕ} (a : Startable priorities winners work) (l : v < length priorities) (o : Opening priorities winners work winners₁ work₁ v) where
-  pub opening_room : v < mark_room winners₁
-  opening_room = has_room (still_stored a.stored o.winners_long) l
-
-  pub opening_cell : Cell (length priorities) v work₁
-  opening_cell = record { small = a.small; long = o.long ∙ a.work_long; within = l }
-
-  pub opening_cell_2 : {work₂ : List ℕ} → CellSet (length priorities) 0 v 1 work₁ work₂ → Cell (length priorities) v work₂
-  opening_cell_2 c = record { small = a.small; long = c.long ∙ o.long ∙ a.work_long; within = l }
+-- the vertex whose turn it is has a mark
+pub opening_room :
+    {priorities winners work winners₁ work₁ : List ℕ} {v : ℕ} → Startable priorities winners work → v < length priorities →
+    Opening priorities winners work winners₁ work₁ v → v < mark_room winners₁
+opening_room a l o = has_room (still_stored a.stored o.winners_long) l
 
 pub opening_more : {priorities winners work winners₁ work₁ winners₂ work₂ work₃ : List ℕ} {v p : ℕ} → Startable priorities winners work → v < length priorities → Opening priorities winners work winners₁ work₁ v → p ≡ parity_of (get_or priorities v 0) → MarkSet winners₁ winners₂ v p → CellSet (length priorities) 0 v 1 work₁ work₂ → CellSet (length priorities) 1 v 0 work₂ work₃ → Opening priorities winners work winners₂ work₃ (v + 1)
 opening_more {priorities} {winners} {work} {winners₁} {work₁} {winners₂} {work₂} {work₃} {v} {p} a l o e m opened cleared =
@@ -66,13 +50,3 @@ opening_more {priorities} {winners} {work} {winners₁} {work₁} {winners₂} {
         ap (λ (i : ℕ). get_or (set (section k (length priorities) work₁) v x) i 0) q
         ∙ get_or-set_same (section k (length priorities) work₁) v x 0 (subst (λ (j : ℕ). v < j) (sym (section_long (length priorities) work₁ long₁ k h)) l)
     here k x u h f (no ne) = get_or-set_other (section k (length priorities) work₁) v u x 0 ne ∙ f ne
-
-pub opening_all : {priorities winners work winners' work' : List ℕ} {v : ℕ} → Startable priorities winners work → length priorities ≤ v → Opening priorities winners work winners' work' v → AllOpen priorities winners work winners' work'
-opening_all {priorities} {winners} {work} {winners'} {work'} {v} a l o =
-    record {
-      winners_long = o.winners_long;
-      long = o.long;
-      mark = λ u h. o.mark u (omega arith);
-      flag = λ u h. o.flag u (omega arith);
-      unreached = record { all = λ u h. o.unreached u (omega (arith, section_long (length priorities) work' (o.long ∙ a.work_long) 1 (omega arith))) };
-    }

@@ -11,11 +11,9 @@ pub fn open_all(priorities: &[u8], winners: &mut [Winner], work: &mut [u16])
     ensures { AllOpen priorities.now winners.old work.old winners.new work.new }
 {
     let n = priorities.len();
-    let mut v = 0;
-    while v < n {
-        set_mark(winners, v, Player::of_priority(priorities[v]).bit);
+    for (v, &priority) in priorities.iter().enumerate() {
+        set_mark(winners, v, u8::from(Player::of_priority(priority)));
         set_flag(n, v, 1, work);
         set_reached(n, v, 0, work);
-        v += 1;
     }
 }

@@ -17,7 +17,7 @@ fn start_mark(v: usize, priorities: &[u8], old_winners: &[Winner], reached: &[u8
     if reached[v] == 0 {
         return mark(old_winners, v);
     }
-    Player::of_priority(priorities[v]).bit
+    u8::from(Player::of_priority(priorities[v]))
 }
 
 // The engine's start: unreached vertices settled with their old lines, reached ones open. The move of an open vertex is never read.
@@ -34,11 +34,9 @@ pub fn prepare(
     requires { Preparable n priorities.now old_winners.now old_moves.now reached.now winners.old moves.old work.old }
     ensures { Prepared n priorities.now old_winners.now old_moves.now reached.now winners.new moves.new work.new n }
 {
-    let mut v = 0;
-    while v < n {
+    for v in 0..n {
         set_mark(winners, v, start_mark(v, priorities, old_winners, reached));
         record_move(moves, v, recorded(old_moves, v));
         set_flag(n, v, reached[v] as u16, work);
-        v += 1;
     }
 }

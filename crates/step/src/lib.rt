@@ -29,7 +29,7 @@ pub fn step(
     ensures { SteppedIn (length priorities.now) v line.winner line.to line.level low priorities.now ins.now froms.now (desk_of desk.old) winners.old moves.old work.old (desk_of desk.new) winners.new moves.new work.new result }
 {
     let own = priorities[v];
-    if line.winner == Player::of_priority(own).bit {
+    if line.winner == u8::from(Player::of_priority(own)) {
         keep(v, line, desk, moves, work);
         return low;
     }

@@ -6,14 +6,13 @@ ghost use Rattle.storage.specs.promise.Lent.{lent_sizes};
 
 use crate::answer::cells;
 use game::buffers::compare;
-use refusal::Found;
 
 // 8: winners, moves and work space of n vertices.
-pub fn lengths(n: usize, winners: usize, moves: usize, work: usize) -> Found
+pub fn lengths(n: usize, winners: usize, moves: usize, work: usize) -> Option<usize>
     requires { n ≤ 2048 }
     ensures { Finds (Fault8 (lent_sizes n winners moves work)) result }
 {
-    let space = compare(Found::Nowhere, work, 4 * n);
+    let space = compare(None, work, 4 * n);
     let moved = compare(space, moves, n);
     compare(moved, winners, cells(n))
 }

@@ -6,19 +6,16 @@ ghost use Rattle.storage.specs.parts.Answers.{Stored};
 use crate::Winner;
 use crate::answer::mark;
 use player::Player;
-use refusal::Found;
 
 // 11: a mark that is neither 0 nor 1.
-pub fn strange_mark(n: usize, winners: &[Winner]) -> Found
+pub fn strange_mark(n: usize, winners: &[Winner]) -> Option<usize>
     requires { Stored n winners.now }
     ensures { Finds (Fault11 n winners.now) result }
 {
-    let mut v = 0;
-    while v < n {
-        if mark(winners, v) > Player::ODD.bit {
-            return Found::At(v);
+    for v in 0..n {
+        if Player::try_from(mark(winners, v)).is_err() {
+            return Some(v);
         }
-        v += 1;
     }
-    Found::Nowhere
+    None
 }

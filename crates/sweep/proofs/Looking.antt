@@ -1,6 +1,6 @@
 -- Looking at somebody in a line: he is new no longer.
 use Prim.Native.Nat.{ℕ}
-use mathlib.Core.Path.{◌≡◌, refl, sym, ap, ◌∙◌}
+use mathlib.Core.Path.{◌≡◌, sym, ap, ◌∙◌}
 use mathlib.Core.Logic.{◌≢◌}
 use mathlib.Core.List.{List}
 use native.Mathlib.Decide.{ℕ_discrete}
@@ -9,17 +9,11 @@ use lib.ListN.{get_or, set}
 use lib.Seq.{get_or-set_same, get_or-set_other}
 use Rattle.space.specs.parts.Desk.{Desk, Laid, put_waits}
 use Rattle.space.proofs.Desks.{laid_waits}
-use Rattle.pile.specs.parts.Pile.{Pushable, PushedOn}
+use Rattle.pile.specs.parts.Pile.{PushedOn}
 use Rattle.sweep.specs.parts.Gathering.{Lookable, SameWait, Looked}
-
-pub same_none : {waiting : List ℕ} → SameWait waiting waiting
-same_none = record { on = λ w f. f; back = λ w f. f }
 
 pub same_more : {a b c : List ℕ} → SameWait a b → SameWait b c → SameWait a c
 same_more x y = record { on = λ w f. y.on w (x.on w f); back = λ w f. x.back w (y.back w f) }
-
-pub looked_none : {x tail : ℕ} {d : Desk} → Laid d → Looked x d tail d tail
-looked_none l = record { same = same_none; piled = λ n h a. a; laid = l; firsts = refl; lasts = refl; levels = refl }
 
 module _ {n x tail y : ℕ} {d d₁ : Desk} {work : List ℕ} (p : Lookable n x d work tail) (is : y ≡ get_or d.waiting x 0) (two : y ≡ 2) (new : d₁ ≡ put_waits x 1 d) where
   waiting : d₁.waiting ≡ set d.waiting x 1
@@ -53,9 +47,6 @@ module _ {n x tail y : ℕ} {d d₁ : Desk} {work : List ℕ} (p : Lookable n x 
         lasts = ap (λ (z : Desk). z.lasts) new;
         levels = ap (λ (z : Desk). z.levels) new;
       }
-
-  pub looked_pushable : Pushable x d₁ tail
-  looked_pushable = record { small = p.pushable.small; laid = looked_laid; within = p.pushable.within }
 
   pub looked_open : {d₂ : Desk} {tail' : ℕ} → PushedOn x d₁ tail d₂ tail' → Looked x d tail d₂ tail'
   looked_open q =

@@ -1,19 +1,15 @@
 -- Sweeping the lines: the engine goes on.
-use Prim.Native.Nat.{ℕ, ◌<◌}
+use Prim.Native.Nat.{ℕ}
 use mathlib.Core.List.{List}
 use Rattle.game.specs.promise.Tables.{Tables, vertices}
 use Rattle.space.specs.parts.Desk.{Desk}
-use Rattle.pick.specs.parts.Order.{Frontable}
 use Rattle.waiting.proofs.Standings.{standing_lines}
 use Rattle.step.proofs.Moving.{moved_more, moved_lines}
-use Rattle.draw.specs.parts.Drawing.{Drainable, Drawn}
+use Rattle.draw.specs.parts.Drawing.{Drawn}
 use Rattle.draw.proofs.Visits.{drawn_more}
 use Rattle.sweep.specs.parts.Gathering.{Gathered}
 
 module _ {tables : Tables} {ins froms winners₀ moves₀ work₀ : List ℕ} {d : Desk} {winners moves work : List ℕ} (x : Drawn 0 tables ins froms winners₀ moves₀ work₀ d winners moves work) where
-  pub sweep_frontable : {p : ℕ} → p < 256 → Frontable (vertices tables) p d work
-  sweep_frontable l = record { pickable = record { priorities = tables.priorities; standing = x.moved.engine.standing }; line = l }
-
   -- the lines after the gathering, and the pile
   pub sweep_gathered : {tail : ℕ} {d' : Desk} → Gathered (vertices tables) d work d' tail → Drawn tail tables ins froms winners₀ moves₀ work₀ d' winners moves work
   sweep_gathered g =
@@ -27,10 +23,6 @@ module _ {tables : Tables} {ins froms winners₀ moves₀ work₀ : List ℕ} {d
             g.levels);
         piled = g.piled;
       }
-
-  -- what a drain of it asks
-  pub sweep_drainable : {tail : ℕ} {d' : Desk} → Gathered (vertices tables) d work d' tail → Drainable tail tables ins froms d' winners moves work
-  sweep_drainable g = let s = sweep_gathered g in record { engine = s.moved.engine; piled = s.piled }
 
   pub sweep_more :
       {tail : ℕ} {d₁ d' : Desk} {winners' moves' work' : List ℕ} →

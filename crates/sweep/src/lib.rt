@@ -1,7 +1,8 @@
 // Attracting from what has been opened since the last sweep, from the highest priority down.
 #![tactic(auto)]
 
-ghost use Rattle.std.specs.Prelude.{◌≤◌};
+ghost use Rattle.std.specs.Prelude.{◌<◌, ◌≤◌};
+ghost use Rattle.std.specs.Option.{IfSome};
 ghost use Rattle.game.specs.promise.Lent.{asked, lent};
 ghost use Rattle.space.specs.parts.Desk.{Laid, desk_of};
 ghost use Rattle.pick.specs.parts.Order.{Frontable};
@@ -12,7 +13,7 @@ use attract::{Left, drain};
 use game::NONE;
 use game::vertex::wide;
 use pick::front;
-use pile::{larger, push};
+use pile::push;
 use space::desk::{first, set_waits, waits};
 use space::work::{behind, flag};
 use storage::Winner;
@@ -32,46 +33,32 @@ fn look(n: usize, x: usize, desk: &mut [u16], work: &[u16], tail: usize) -> usiz
     push(x, desk, tail)
 }
 
-// The pile of those who are new in a line and open.
+// The pile of those who are new in a line and open. No line has more than n.
 fn gather(n: usize, priority: usize, desk: &mut [u16], work: &[u16]) -> usize
     requires { Frontable n priority (desk_of desk.old) work.now }
     ensures { Gathered n (desk_of desk.old) work.now (desk_of desk.new) result }
 {
-    let mut v = front(n, priority, desk, work);
+    let Some(mut x) = front(n, priority, desk, work) else {
+        return 0;
+    };
     let mut tail = 0;
-    let mut i = 0;
-    while i < n {
-        if v == NONE {
+    for _ in 0..n {
+        tail = look(n, x, desk, work, tail);
+        let next = behind(n, x, work);
+        if next == NONE {
             return tail;
         }
-        let x = wide(v);
-        tail = look(n, x, desk, work, tail);
-        v = behind(n, x, work);
-        i += 1;
+        x = wide(next);
     }
     tail
 }
 
-fn capped(top: usize) -> usize
-    ensures { result ≤ 256 }
-{
-    if top < 256 { top } else { 256 }
-}
-
-// The highest line below p that has somebody, plus 1; or 0.
-fn below(desk: &[u16], p: usize) -> usize
+// The highest line below p that has somebody.
+fn below(desk: &[u16], p: usize) -> Option<usize>
     requires { Laid (desk_of desk.now) × (p ≤ 256) }
-    ensures { result ≤ p }
+    ensures { IfSome result (λ k. k < p) }
 {
-    let mut q = p;
-    while 0 < q {
-        let k = q - 1;
-        if first(k, desk) != NONE {
-            return q;
-        }
-        q = k;
-    }
-    0
+    (0..p).rev().find(|&k| first(k, desk) != NONE)
 }
 
 // From the priority below `top` down to 0: attracts from the new open vertices, and nothing below their priority is leaned on.
@@ -96,23 +83,16 @@ pub fn sweep(
     let n = owners.len();
     let mut left = budget;
     let mut high = 0;
-    let mut p = capped(top);
-    while 0 < p {
-        let q = below(desk, p);
-        if q == 0 {
-            return Left {
-                budget: left,
-                top: high,
-            };
-        }
-        p = q - 1;
+    let mut p = top.min(256);
+    while let Some(k) = below(desk, p) {
+        p = k;
         let tail = gather(n, p, desk, work);
         let drained = drain(
             tail, p as u16, left, owners, priorities, starts, targets, ins, froms, desk, winners,
             moves, work,
         );
         left = drained.budget;
-        high = larger(high, drained.top);
+        high = high.max(drained.top);
     }
     Left {
         budget: left,

@@ -1,11 +1,11 @@
 // The tables and the lengths of winners, moves and work space: all that solver and checker test before they begin.
 ghost use Rattle.refusal.specs.promise.Row.{Gives};
-ghost use Rattle.refusal.specs.parts.Found.{tested_said};
+ghost use Rattle.refusal.specs.promise.Number.{tested_said};
 ghost use Rattle.game.specs.promise.Lent.{lent};
 ghost use Rattle.storage.specs.promise.Lent.{lent_rows};
 
 use crate::test_tables;
-use refusal::{Kind, Tested, or};
+use refusal::{Kind, Refusal, refuse};
 use storage::lent::lengths;
 
 // 1 to 7, then 8.
@@ -17,16 +17,9 @@ pub fn test_lent(
     winners: usize,
     moves: usize,
     work: usize,
-) -> Tested
+) -> Result<(), Refusal>
     ensures { Gives (lent_rows (lent owners priorities starts targets) winners moves work) (tested_said result) }
 {
-    let tested = test_tables(owners, priorities, starts, targets);
-    if let Tested::Refused(r) = tested {
-        return Tested::Refused(r);
-    }
-    or(
-        tested,
-        lengths(owners.len(), winners, moves, work),
-        Kind::Buffer,
-    )
+    test_tables(owners, priorities, starts, targets)?;
+    refuse(lengths(owners.len(), winners, moves, work), Kind::Buffer)
 }

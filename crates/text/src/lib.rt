@@ -17,12 +17,9 @@ pub fn word(text: &mut [u8], at: usize, word: &[u8]) -> usize
     requires { Room text.old at word.now }
     ensures { Appended text.old text.new at word.now result }
 {
-    let mut i = 0;
-    while i < word.len() {
-        text[at + i] = word[i];
-        i += 1;
-    }
-    at + i
+    let next = at + word.len();
+    text[at..next].copy_from_slice(word);
+    next
 }
 
 // A number in decimal.

@@ -11,10 +11,8 @@ use refusal::{Refusal, number};
 pub fn refused(r: Refusal, value: &mut u64) -> u64
     ensures { Gave r result value.new }
 {
-    let kind = r.kind;
-    let place = r.place;
-    *value = place as u64;
-    number(kind)
+    *value = r.place as u64;
+    number(r.kind)
 }
 
 // The two sizes of a file in one value.

@@ -4,12 +4,11 @@ use mathlib.Core.Path.{◌≡◌, refl, sym, subst, ◌∙◌}
 use mathlib.Core.List.{List}
 use lib.ListN.{length, get_or}
 use Rattle.refusal.specs.promise.Row.{None, Gives}
-use Rattle.refusal.specs.promise.Number.{number_of, said_of}
-use Rattle.refusal.specs.parts.Found.{tested_said}
+use Rattle.refusal.specs.promise.Number.{number_of}
+use Rattle.refusal.specs.promise.Number.{tested_said}
 use Rattle.refusal.specs.declared.Refusal.{Refusal}
-use Rattle.refusal.specs.declared.Tested.{Tested}
-use Rattle.refusal.specs.declared.Tested.TheVariants as tested
-use Rattle.refusal.proofs.Rows.{tested_refused, first_left, first_right}
+use Rattle.std.specs.Prelude.{Result, Ok, Err}
+use Rattle.refusal.proofs.Rows.{first_left, first_right}
 use Rattle.game.specs.promise.Tables.{game_of, WellFormed}
 use Rattle.storage.specs.promise.Answer.{mark_of, move_of}
 use Rattle.storage.specs.promise.Lent.{Lent}
@@ -18,13 +17,9 @@ use Rattle.storage.proofs.Zeros.{zeroed_more}
 use Rattle.game.proofs.WellFormed.{well_formed}
 use Rattle.winning.specs.promise.Faults.{Accepted}
 use Rattle.winning.proofs.Accepted.{accepted_right}
-use Rattle.checker.specs.declared.Verdict.{Verdict}
-use Rattle.checker.specs.declared.Verdict.TheVariants as verdicts
 use Rattle.checker.specs.parts.Judging.{JudgeableIn, Judged}
-use Rattle.checker.specs.promise.Checking.{verdict_said, judge_rows}
+use Rattle.checker.specs.promise.Checking.{judge_rows}
 use Rattle.checker.proofs.Verdicts.{high}
-use Rattle.update.specs.declared.Updated.{Updated}
-use Rattle.update.specs.declared.Updated.TheVariants as updated
 use Rattle.update.specs.promise.Updating.{Updates, updated_said}
 use Rattle.inputs.specs.promise.Inputs.{Input, test_rows}
 use Rattle.redo.specs.parts.Redoing.{Redoable, RedoneTo}
@@ -36,14 +31,15 @@ with_work l work = record { answer = l.answer; work = work }
 
 module _ (i : Input) (l : Lent) where
   -- a refusal before the checker's leaves everything as it was
-  pub refused_early : {t : Tested} {r : Refusal} → t ≡ tested.Refused r → Gives (test_rows i l) (tested_said t) → Updates i l l (said_of r)
-  refused_early {t} {r} e g =
-      let f = tested_refused (test_rows i l) e g in
-      record {
+  pub refused_early : {t : Result Unit Refusal} {r : Refusal} {u : Result ℕ Refusal} → t ≡ Err r → u ≡ Err r → Gives (test_rows i l) (tested_said t) → Updates i l l (updated_said u)
+  refused_early {t} {r} e given g =
+      let f = subst (λ (t : Result Unit Refusal). Gives (test_rows i l) (tested_said t)) e g in
+      subst (λ (u : Result ℕ Refusal). Updates i l l (updated_said u)) (sym given)
+      (record {
         first = first_left (test_rows i l) (judge_rows i.first i.old) (number_of r.kind) r.place f;
         same = refl;
         leaves = record { zeroed = λ j. absurd (not_judging i l f j); same = λ _. refl };
-      }
+      })
 
   module _ (bytes : (v : ℕ) → get_or i.first.priorities v 0 < 256) (n : None (test_rows i l)) where
     free : Free i l
@@ -64,24 +60,24 @@ module _ (i : Input) (l : Lent) where
           froms_long = y;
         }
 
-    module _ {v : Verdict} {work₁ : List ℕ} (j : Judged i.first i.old l.work work₁ (verdict_said v)) where
+    module _ {v : Result Unit Refusal} {work₁ : List ℕ} (j : Judged i.first i.old l.work work₁ (tested_said v)) where
       -- a refusal by the checker leaves the work space all zero
-      pub refused_judged : {q : Refusal} {u : Updated} → v ≡ verdicts.Refused q → u ≡ updated.Refused q → Updates i l (with_work l work₁) (updated_said u)
+      pub refused_judged : {q : Refusal} {u : Result ℕ Refusal} → v ≡ Err q → u ≡ Err q → Updates i l (with_work l work₁) (updated_said u)
       refused_judged {q} {u} e given =
-          let f = subst (λ (v : Verdict). Gives (judge_rows i.first i.old) (verdict_said v)) e j.gives in
-          subst (λ (u : Updated). Updates i l (with_work l work₁) (updated_said u)) (sym given)
+          let f = subst (λ (v : Result Unit Refusal). Gives (judge_rows i.first i.old) (tested_said v)) e j.gives in
+          subst (λ (u : Result ℕ Refusal). Updates i l (with_work l work₁) (updated_said u)) (sym given)
           (record {
             first = first_right (test_rows i l) (judge_rows i.first i.old) (number_of q.kind) q.place n f;
             same = refl;
             leaves = record { zeroed = λ _. j.zeroed; same = λ h. absurd (h (high i.first i.old l.work (number_of q.kind) q.place f)) };
           })
 
-      accepted : v ≡ verdicts.Accepted → Accepted (game_of i.first) (mark_of i.old.winners) (move_of i.old.moves)
+      accepted : v ≡ Ok tt → Accepted (game_of i.first) (mark_of i.old.winners) (move_of i.old.moves)
       accepted e =
-          let n = subst (λ (v : Verdict). Gives (judge_rows i.first i.old) (verdict_said v)) e j.gives in
+          let n = subst (λ (v : Result Unit Refusal). Gives (judge_rows i.first i.old) (tested_said v)) e j.gives in
           record { players = marks_players n.0; none = n.1 }
 
-      pub redoing_asks : {ins froms : List ℕ} → ((v : ℕ) → get_or i.second.priorities v 0 < 256) → v ≡ verdicts.Accepted → length ins ≡ 2049 → length froms ≡ 16384 → Redoable i (with_work l work₁) ins froms
+      pub redoing_asks : {ins froms : List ℕ} → ((v : ℕ) → get_or i.second.priorities v 0 < 256) → v ≡ Ok tt → length ins ≡ 2049 → length froms ≡ 16384 → Redoable i (with_work l work₁) ins froms
       redoing_asks bytes2 e x y =
           let f = free.fit in
           record {
@@ -93,7 +89,7 @@ module _ (i : Input) (l : Lent) where
             froms_long = y;
           }
 
-      pub done : {after : Lent} {count : ℕ} → v ≡ verdicts.Accepted → RedoneTo i (with_work l work₁) after count → Updates i l after (updated_said (updated.Done count))
+      pub done : {after : Lent} {count : ℕ} → v ≡ Ok tt → RedoneTo i (with_work l work₁) after count → Updates i l after (updated_said (Ok count))
       done {after} {count} e r =
           record {
             none = n;

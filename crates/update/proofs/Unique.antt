@@ -5,6 +5,8 @@ use mathlib.Core.Path.{◌≡◌, refl, sym, ap, ◌∙◌}
 use mathlib.Core.List.{List, [], ◌∷◌}
 use native.Mathlib.Omega.{arith}
 use lib.ListN.{get_or}
+use Rattle.std.specs.Prelude.{Result, Ok, Err}
+use Rattle.refusal.specs.declared.Refusal.{Refusal}
 use Rattle.refusal.specs.promise.Row.{Said, success, refused, None}
 use Rattle.refusal.specs.promise.Number.{number_of}
 use Rattle.refusal.proofs.Rows.{first_not_none, first_unique, none_append}
@@ -18,8 +20,6 @@ use Rattle.game.proofs.WellFormed.{well_formed, none_applies}
 use Rattle.checker.proofs.Verdicts as verdicts
 use Rattle.checker.specs.promise.Checking.{IsRight, judge_rows}
 use Rattle.solver.proofs.Unique.{SameLines, solutions_lines}
-use Rattle.update.specs.declared.Updated.{Updated}
-use Rattle.update.specs.declared.Updated.TheVariants.{Done, Refused}
 use Rattle.update.specs.promise.Updating.{update_rows, updated_said, Decided, Undecided, Updates}
 use Rattle.redo.specs.promise.Redone.{Redone}
 use Rattle.inputs.specs.promise.Inputs.{Input, update_sizes, test_rows}
@@ -27,11 +27,11 @@ use Rattle.amend.proofs.Counts.{count_unique}
 use Rattle.inputs.proofs.Rows.{free_of_none, none_of_free}
 
 -- what is said determines the answer
-said_unique : (a b : Updated) → updated_said a ≡ updated_said b → a ≡ b
-said_unique (Done c) (Done d) e = let same : c ≡ d = cc in ap Done same
-said_unique (Done c) (Refused r) e = let z : ◌≡◌ {A = ℕ} 0 1 = cc in absurd (omega arith)
-said_unique (Refused q) (Done d) e = let z : ◌≡◌ {A = ℕ} 0 1 = cc in absurd (omega arith)
-said_unique (Refused q) (Refused r) e = ap Refused (refusal_unique q r e)
+said_unique : (a b : Result ℕ Refusal) → updated_said a ≡ updated_said b → a ≡ b
+said_unique (Ok c) (Ok d) e = let same : c ≡ d = cc in ap Ok same
+said_unique (Ok c) (Err r) e = let z : ◌≡◌ {A = ℕ} 0 1 = cc in absurd (omega arith)
+said_unique (Err q) (Ok d) e = let z : ◌≡◌ {A = ℕ} 0 1 = cc in absurd (omega arith)
+said_unique (Err q) (Err r) e = ap Err (refusal_unique q r e)
 
 module _ (i : Input) (before : Lent) where
   -- two outcomes on the same input
@@ -86,14 +86,14 @@ module _ (i : Input) (before : Lent) where
     updates_unique x y (refused k z) (refused l u) r s = refuses_alike x y k z l u r s
 
     -- so no second answer satisfies the promise
-    pub answer_unique : (x y : Lent) (a b : Updated) → Updates i before x (updated_said a) → Updates i before y (updated_said b) → a ≡ b
+    pub answer_unique : (x y : Lent) (a b : Result ℕ Refusal) → Updates i before x (updated_said a) → Updates i before y (updated_said b) → a ≡ b
     answer_unique x y a b r s = said_unique a b (updates_unique x y (updated_said a) (updated_said b) r s).said
 
   -- two well-formed games of as many vertices, an answer that the checker accepts for the first, and lists that fit: success
   pub well_formed_updated :
-      (x : Lent) (a : Updated) → WellFormed i.first → WellFormed i.second → vertices i.first ≡ vertices i.second → IsRight i.first i.old →
-      Fit (update_sizes i before) → Updates i before x (updated_said a) → (count : ℕ) × (a ≡ Done count)
-  well_formed_updated x (Done count) w1 w2 size r f u = (count, refl)
-  well_formed_updated x (Refused q) w1 w2 size r f u =
+      (x : Lent) (a : Result ℕ Refusal) → WellFormed i.first → WellFormed i.second → vertices i.first ≡ vertices i.second → IsRight i.first i.old →
+      Fit (update_sizes i before) → Updates i before x (updated_said a) → (count : ℕ) × (a ≡ Ok count)
+  well_formed_updated x (Ok count) w1 w2 size r f u = (count, refl)
+  well_formed_updated x (Err q) w1 w2 size r f u =
       absurd (first_not_none (update_rows i before) (number_of q.kind) q.place u.first
       (none_of_right (none_of_free i before (record { first = none_applies i.first w1; second = none_applies i.second w2; size = size; fit = f })) r))

@@ -1,38 +1,19 @@
 // The update: lines of a checked answer that no amendment reaches are kept, all others decided anew.
 #![tactic(auto)]
 
-ghost use Rattle.std.specs.Prelude.{◌≡◌};
 ghost use Rattle.refusal.specs.promise.Row.{None};
-ghost use Rattle.refusal.specs.declared.Refusal.{Refusal};
 ghost use Rattle.game.specs.promise.Lent.{asked, lent};
 ghost use Rattle.storage.specs.promise.Lent.{claim, claimed, buffers, given, left};
 ghost use Rattle.update.specs.promise.Updating.{Updates, updated_said};
 ghost use Rattle.inputs.specs.promise.Inputs.{input_of, test_rows};
 
-use checker::{Verdict, judge_in};
+use checker::judge_in;
 use game::EDGES;
 use inputs::test_input;
 use preds::INS;
 use redo::redo;
-use refusal::{Refusal, Tested};
+use refusal::Refusal;
 use storage::Winner;
-
-// The number of vertices that reach an amended one, or the first refusal that applies.
-#[derive(Drop)]
-pub enum Updated {
-    Done(usize),
-    Refused(Refusal),
-}
-
-// What the checker has refused is refused.
-fn as_refusal(verdict: Verdict) -> Updated
-    ensures { (q : Refusal) → verdict ≡ Verdict.Refused q → result ≡ Updated.Refused q }
-{
-    let Verdict::Refused(r) = verdict else {
-        return Updated::Done(0);
-    };
-    Updated::Refused(r)
-}
 
 // The checker's verdict on the old answer comes first; a refusal ends the update. The two games' predecessor lists stand in one place,
 // one after the other.
@@ -50,13 +31,13 @@ fn amend(
     winners: &mut [Winner],
     moves: &mut [u16],
     work: &mut [u16],
-) -> Updated
+) -> Result<usize, Refusal>
     requires { None (test_rows (input_of (asked owners priorities starts targets) (asked owners2 priorities2 starts2 targets2) (claim old_winners old_moves)) (buffers winners moves work)) }
     ensures { Updates (input_of (lent owners priorities starts targets) (lent owners2 priorities2 starts2 targets2) (claimed old_winners old_moves)) (given winners moves work) (left winners moves work) (updated_said result) }
 {
     let mut ins = [0u16; INS];
     let mut froms = [0u16; EDGES];
-    let verdict = judge_in(
+    let accepted = judge_in(
         owners,
         priorities,
         starts,
@@ -67,9 +48,7 @@ fn amend(
         &mut froms,
         work,
     );
-    let Verdict::Accepted = verdict else {
-        return as_refusal(verdict);
-    };
+    accepted?;
     let count = redo(
         owners,
         priorities,
@@ -87,10 +66,10 @@ fn amend(
         moves,
         work,
     );
-    Updated::Done(count)
+    Ok(count)
 }
 
-// Writes the answer to the second game that keeps every line of the old one that no amendment reaches, or gives the first refusal that applies.
+// The number of vertices that reach an amended one; writes the answer to the second game that keeps every line of the old one that no amendment reaches, or gives the first refusal that applies.
 pub fn update(
     owners: &[u8],
     priorities: &[u8],
@@ -105,10 +84,10 @@ pub fn update(
     winners: &mut [Winner],
     moves: &mut [u16],
     work: &mut [u16],
-) -> Updated
+) -> Result<usize, Refusal>
     ensures { Updates (input_of (lent owners priorities starts targets) (lent owners2 priorities2 starts2 targets2) (claimed old_winners old_moves)) (given winners moves work) (left winners moves work) (updated_said result) }
 {
-    let tested = test_input(
+    test_input(
         owners,
         priorities,
         starts,
@@ -122,10 +101,7 @@ pub fn update(
         winners,
         moves,
         work,
-    );
-    if let Tested::Refused(r) = tested {
-        return Updated::Refused(r);
-    }
+    )?;
     amend(
         owners,
         priorities,

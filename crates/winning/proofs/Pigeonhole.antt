@@ -8,8 +8,7 @@ use native.Mathlib.Nat.{not-suc-le-zero}
 use native.Mathlib.Decide.{ℕ_discrete}
 use native.Mathlib.Omega.{arith}
 use Rattle.refusal.specs.parts.Found.{Finds}
-use Rattle.refusal.specs.declared.Found.{Found}
-use Rattle.refusal.specs.declared.Found.TheVariants.{At, Nowhere}
+use Rattle.std.specs.Prelude.{Option, Some, None as nothing}
 use Rattle.winning.specs.parts.Verdict.{lowest}
 use Rattle.winning.proofs.Reflect.{tests_eq}
 use Rattle.winning.proofs.Search.{Below, finds_lowest}
@@ -53,9 +52,9 @@ pigeonhole (suc n) f small = at (lowest earlier (suc n)) (finds_lowest (λ i. f 
     earlier : ℕ → Bool
     earlier i = eqb (f i) (f (suc n))
 
-    at : (r : Found) → Finds (Below (λ i. f i ≡ f (suc n)) (suc n)) r → ((f' : ℕ → ℕ) → ((i : ℕ) → i ≤ n → f' i < n) → Twice f' n) → Twice f (suc n)
-    at (At x) h fewer = record { i = x; j = suc n; before = h.holds.below; within = omega arith; same = h.holds.has }
-    at Nowhere h fewer =
+    at : (r : Option ℕ) → Finds (Below (λ i. f i ≡ f (suc n)) (suc n)) r → ((f' : ℕ → ℕ) → ((i : ℕ) → i ≤ n → f' i < n) → Twice f' n) → Twice f (suc n)
+    at (Some x) h fewer = record { i = x; j = suc n; before = h.holds.below; within = omega arith; same = h.holds.has }
+    at nothing h fewer =
         let new : (i : ℕ) → i < suc n → f i ≢ f (suc n) = λ i l e. h i (record { below = l; has = e }) in
         let t = fewer (shifted n f small new) (shifted_small n f small new) in
         record { i = t.i; j = t.j; before = t.before; within = omega arith; same = shifted_same n f small new t.i t.j (omega arith) (omega arith) t.same }

@@ -9,7 +9,6 @@ use lib.Seq.{length-take-le, get_or-take, get_or-append-add, ext_get_or}
 use Rattle.game.specs.promise.Tables.{vertices}
 use Rattle.format.specs.promise.Format.{Filing, blocks_of, block_byte, file_of}
 use Rattle.format.specs.parts.Put.{Begun}
-use Rattle.format.proofs.Puts.{begun_none}
 use Rattle.format.proofs.FileOf.{file_long, file_at}
 
 -- a part is put back behind what has been begun
@@ -48,15 +47,6 @@ module _ (f : Filing) where
   -- the first b blocks stand in the output
   pub record Blocks (output : List ℕ) (b : ℕ) : Type 0 where
     pub begun : Begun file_size file_byte (512 * b) output
-
-  pub blocks_none : (output : List ℕ) → length output ≡ file_size → Blocks output 0
-  blocks_none output long = record { begun = begun_none long }
-
-  -- the part of block b, as it is cut out and put back
-  pub blocks_part : (output : List ℕ) (b : ℕ) → b < blocks_of (vertices f.tables) (length f.tables.targets) → Blocks output b → length (take (512 * b + 512 - 512 * b) (drop (512 * b) output)) ≡ 512
-  blocks_part output b l o =
-      let k : 512 * b + 512 - 512 * b ≡ 512 = omega arith in
-      length-take-le (512 * b + 512 - 512 * b) (drop (512 * b) output) (omega (arith, length-drop (512 * b) output, o.begun.long)) ∙ k
 
   pub blocks_more : (output part : List ℕ) (b : ℕ) → b < blocks_of (vertices f.tables) (length f.tables.targets) → Blocks output b → Begun 512 (block_byte f b) 512 part → Blocks (take (512 * b) output ++ (part ++ drop (512 * b + 512 - 512 * b) (drop (512 * b) output))) (b + 1)
   blocks_more output part b l o p =

@@ -7,14 +7,13 @@ ghost use Rattle.storage.specs.promise.Lent.{claimed, given, left};
 ghost use Rattle.inputs.specs.promise.Inputs.{input_of};
 ghost use Rattle.zoetelkorf.specs.promise.Calls.{ChecksBy, SolvesBy, UpdatesBy, ReadsBy, WritesBy};
 
-use checker::{Verdict, check};
-use housefile::Read;
+use checker::check;
 use housefile::reader::read;
-use solver::{Solved, solve};
+use solver::solve;
 use storage::Winner;
 use told::{refused, sizes};
-use update::{Updated, update};
-use writer::{Written, write};
+use update::update;
+use writer::write;
 
 #[unsafe(no_mangle)]
 pub extern "C" fn zoetelkorf_check(
@@ -29,12 +28,13 @@ pub extern "C" fn zoetelkorf_check(
 ) -> u64
     ensures { ChecksBy (lent owners priorities starts targets) (claimed winners moves) work.old work.new result value.new }
 {
-    let verdict = check(owners, priorities, starts, targets, winners, moves, work);
-    if let Verdict::Refused(r) = verdict {
-        return refused(r, value);
+    match check(owners, priorities, starts, targets, winners, moves, work) {
+        Ok(()) => {
+            *value = 0;
+            0
+        }
+        Err(r) => refused(r, value),
     }
-    *value = 0;
-    0
 }
 
 #[unsafe(no_mangle)]
@@ -50,12 +50,13 @@ pub extern "C" fn zoetelkorf_solve(
 ) -> u64
     ensures { SolvesBy (lent owners priorities starts targets) (given winners moves work) (left winners moves work) result value.new }
 {
-    let solved = solve(owners, priorities, starts, targets, winners, moves, work);
-    if let Solved::Refused(r) = solved {
-        return refused(r, value);
+    match solve(owners, priorities, starts, targets, winners, moves, work) {
+        Ok(()) => {
+            *value = 0;
+            0
+        }
+        Err(r) => refused(r, value),
     }
-    *value = 0;
-    0
 }
 
 #[unsafe(no_mangle)]
@@ -93,11 +94,11 @@ pub extern "C" fn zoetelkorf_update(
         work,
     );
     match updated {
-        Updated::Refused(r) => refused(r, value),
-        Updated::Done(count) => {
+        Ok(count) => {
             *value = count as u64;
             0
         }
+        Err(r) => refused(r, value),
     }
 }
 
@@ -112,13 +113,12 @@ pub extern "C" fn zoetelkorf_read(
 ) -> u64
     ensures { ReadsBy file.now (tables_of owners.old priorities.old starts.old targets.old) (written owners priorities starts targets) result value.new }
 {
-    let taken = read(file, owners, priorities, starts, targets);
-    match taken {
-        Read::Refused(r) => refused(r, value),
-        Read::Game(h) => {
+    match read(file, owners, priorities, starts, targets) {
+        Ok(h) => {
             *value = sizes(h.vertices, h.edges);
             0
         }
+        Err(r) => refused(r, value),
     }
 }
 
@@ -133,12 +133,11 @@ pub extern "C" fn zoetelkorf_write(
 ) -> u64
     ensures { WritesBy (lent owners priorities starts targets) file.old file.new result value.new }
 {
-    let written = write(owners, priorities, starts, targets, file);
-    match written {
-        Written::Refused(r) => refused(r, value),
-        Written::File(bytes) => {
+    match write(owners, priorities, starts, targets, file) {
+        Ok(bytes) => {
             *value = bytes as u64;
             0
         }
+        Err(r) => refused(r, value),
     }
 }

@@ -1,13 +1,8 @@
--- `attract::drain` meets its contract. The invariant, `Going`: the engine has moved, and no more is left of the budget than there was.
-use mathlib.Core.Path.{◌≡◌}
-use lib.ListN.{length}
+-- `attract::drain` meets its contract. The invariant: the engine has moved, and there is a pile.
 use Rattle.game.specs.promise.Tables.{tables_of}
 use Rattle.space.specs.parts.Desk.{desk_of}
-use Rattle.attract.proofs.Drains.{Going}
+use Rattle.draw.specs.parts.Drawing.{Drawn}
 use Rattle.attract.proofs.drain.Given as goal
 
-abbrev pub invariant-loop-left : goal.invariant-loop-left
-invariant-loop-left l = (length l.desk ≡ length l.initial.desk) × Going l.budget l.left l.pile.tail (tables_of l.owners l.priorities l.starts l.targets) l.ins l.froms l.initial.winners l.initial.moves l.initial.work (desk_of l.desk) l.winners l.moves l.work
-
-abbrev pub decreases-loop-left : goal.decreases-loop-left
-decreases-loop-left l = l.left
+abbrev pub invariant-loop-spent : goal.invariant-loop-spent
+invariant-loop-spent l = Drawn l.pile.tail (tables_of l.owners l.priorities l.starts l.targets) l.ins l.froms l.initial.winners l.initial.moves l.initial.work (desk_of l.desk) l.winners l.moves l.work

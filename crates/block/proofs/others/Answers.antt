@@ -1,30 +1,16 @@
--- `block::others` meets its contract. Row 44: byte 3, the used count, the unused part and, in block 0, the rule.
-use Rattle.block.proofs.BlockTests.{byte3_wrong, rule_wrong, used_wrong, unused_wrong, others_right}
-use Rattle.block.specs.parts.Bytes.{Stain}
-use Rattle.format.specs.promise.Faults.{Fault44}
-use Rattle.format.specs.promise.Filed.{rule_filed}
-use Rattle.refusal.proofs.Scans.{found_at, found_nowhere}
-use Rattle.refusal.specs.promise.Row.{NoPlace}
-use Prim.Native.Nat.{◌≤◌}
-use mathlib.Core.Path.{◌≡◌}
-use native.Mathlib.Omega.{arith}
+-- `block::others` meets its contract: where byte 3, the used count and the rule are right, an unused byte decides.
+use Rattle.std.proofs.Common.{◌≡◌, ◌+◌, ◌*◌, ◌≤◌, arith}
+use Rattle.format.specs.promise.Format.{used_of}
+use Rattle.format.specs.promise.Filed.{byte_at, word_at, vertices_filed, edges_filed, rule_filed}
+use Rattle.block.proofs.BlockTests.{stain_decides}
 use Rattle.block.proofs.others.Goals as goal
 
-pub returns-then-file-from-ne0 : goal.returns-then-file-from-ne0
-returns-then-file-from-ne0 c = byte3_wrong _ _ c.if-file-from-ne0.true
-
-pub returns-then-word-used : goal.returns-then-word-used
-returns-then-word-used c = used_wrong _ _ _ _ _ _ c.vertices.ensures.is c.edges.ensures.is c.used_of-used.ensures c.word.ensures c.if-word-used.true
-
-pub returns-in-At : goal.returns-in-At
-returns-in-At c =
-    unused_wrong _ _ _ _ _ _ c.vertices.ensures.is c.edges.ensures.is c.used_of-used.ensures c.word.ensures _ (found_at (Stain _ _ _) c.in-At.is c.stain-stained.ensures)
-
-pub returns-then-rule-gt1 : goal.returns-then-rule-gt1
-returns-then-rule-gt1 c = rule_wrong _ _ _ c.if-b-eq0.true c.rule.ensures c.if-rule-gt1.true
-
-pub returns-else-rule-gt1 : goal.returns-else-rule-gt1
-returns-else-rule-gt1 c = (let rest_here : (c.args.b ≡ 0 → rule_filed c.args.file.now ≤ 1) → NoPlace (Fault44 c.args.file.now c.args.b) = λ low. others_right _ _ _ _ _ _ c.vertices.ensures.is c.edges.ensures.is c.used_of-used.ensures c.word.ensures c.if-file-from-ne0.false c.if-word-used.false (found_nowhere (Stain _ _ _) c.in_default.is c.stain-stained.ensures) low in rest_here) (λ z. omega (arith, c.rule.ensures, c.if-rule-gt1.false))
-
-pub returns-else-b-eq0 : goal.returns-else-b-eq0
-returns-else-b-eq0 c = (let rest_here : (c.args.b ≡ 0 → rule_filed c.args.file.now ≤ 1) → NoPlace (Fault44 c.args.file.now c.args.b) = λ low. others_right _ _ _ _ _ _ c.vertices.ensures.is c.edges.ensures.is c.used_of-used.ensures c.word.ensures c.if-file-from-ne0.false c.if-word-used.false (found_nowhere (Stain _ _ _) c.in_default.is c.stain-stained.ensures) low in rest_here) (λ z. absurd (c.if-b-eq0.false z))
+pub returns : goal.returns
+returns c =
+    let file = c.args.file.now in
+    let b = c.args.b in
+    let byte3 : byte_at file (512 * b + 3) ≡ 0 = grind arith in
+    let used : word_at file (512 * b + 4) ≡ c.used_of-used.result = grind arith in
+    let right : c.used_of-used.result ≡ used_of (vertices_filed file) (edges_filed file) b = grind arith in
+    let rule : b ≡ 0 → rule_filed file ≤ 1 = λ z. grind arith in
+    stain_decides file b _ _ _ byte3 used right rule c.stain.ensures c.and.ensures

@@ -1,17 +1,16 @@
--- `block::stain` meets its contract. The lowest unused byte that is not zero. Invariant: none of those passed is.
-use Rattle.refusal.proofs.Scans.{scan_more, scan_found, scan_all}
-use native.Mathlib.Omega.{arith}
-use borrow.Author.Rules.{rules}
+-- `block::stain` meets its contract: no unused byte before the one that is found is set.
+use Rattle.std.proofs.Common.{ℕ, List, Option, Some, None, MatchOption, ◌≡◌, ◌≢◌, ◌+◌, ◌<◌, ◌≤◌, rules}
+use Rattle.std.proofs.lemmas.Iterator.{first_from_Range}
+use Rattle.refusal.specs.parts.Found.{Finds}
+use Rattle.format.specs.promise.Filed.{byte_at}
+use Rattle.block.specs.parts.Bytes.{Stain}
 use Rattle.block.proofs.stain.Goals as goal
 
-pub loop-k-init : goal.loop-k-init
-loop-k-init c = (search rules, record { clear = λ x l s. omega (arith, s.unused) })
-
-pub returns-then-file-from-ne0 : goal.returns-then-file-from-ne0
-returns-then-file-from-ne0 c = scan_found c.loop-k.invariant.1 (record { unused = search rules; payload = search rules; set = c.if-file-from-ne0.true })
-
-pub loop-k-preserved : goal.loop-k-preserved
-loop-k-preserved c = (search rules, scan_more c.loop-k.invariant.1 (λ s. s.set c.if-file-from-ne0.false))
+stain_first : (file : List ℕ) (from used : ℕ) (r : Option ℕ) → MatchOption r ((k : ℕ) → used ≤ k → k < 504 → byte_at file (from + 6 + k) ≡ 0) (λ i. (used ≤ i) × (i < 504) × (byte_at file (from + 6 + i) ≢ 0) × ((k : ℕ) → used ≤ k → k < i → byte_at file (from + 6 + k) ≡ 0)) → Finds (Stain file from used) r
+stain_first file from used (Some i) m = record { holds = record { unused = m.0; payload = m.1; set = m.2 }; lower = λ y l s. s.set (m.3 y s.unused l) }
+stain_first file from used None m = λ x s. s.set (m x s.unused s.payload)
 
 pub returns : goal.returns
-returns c = scan_all c.loop-k.invariant.1 (λ x s. omega (arith, s.payload))
+returns c =
+    let byte = λ (k : ℕ). byte_at c.args.file.now (c.args.from + 6 + k) in
+    stain_first _ _ _ _ (first_from_Range _ _ _ _ (λ k. byte k ≢ 0) (λ k. byte k ≡ 0) c.find.ensures.ran (λ k f e. search rules) (λ k f e. search rules))

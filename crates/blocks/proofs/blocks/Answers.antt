@@ -1,31 +1,31 @@
 -- `blocks::blocks` meets its contract. Each block in turn. Invariant `Passing`: no row applies to the blocks passed.
-use Rattle.format.proofs.InTurn.{passing_none, passing_more, total_is, passing_first, passing_all, passing_present}
-use Rattle.refusal.proofs.Rows.{tested_refused, tested_passed}
+use Prim.Native.Nat.{ℕ}
+use mathlib.Core.List.{List}
+use mathlib.Core.Path.{◌≡◌, ap₂, ◌∙◌}
+use borrow.Author.Rules.{rules}
+use Rattle.refusal.proofs.Rows.{passed_front}
+use Rattle.format.specs.promise.Format.{blocks_of}
+use Rattle.format.specs.promise.Filed.{vertices_filed, edges_filed}
 use Rattle.format.specs.promise.Faults.{block_rows}
-use native.Mathlib.Omega.{arith}
+use Rattle.format.proofs.InTurn.{passing_none, passing_more, passing_first, passing_all, passing_present}
 use Rattle.blocks.proofs.blocks.Goals as goal
 
-pub vertices-requires : goal.vertices-requires
-vertices-requires c = omega (arith, c.requires.long)
-
-pub edges-requires : goal.edges-requires
-edges-requires c = omega (arith, c.requires.long)
+-- how many blocks there are
+all_is : (file : List ℕ) {n m all : ℕ} → all ≡ blocks_of n m → n ≡ vertices_filed file → m ≡ edges_filed file → all ≡ blocks_of (vertices_filed file) (edges_filed file)
+all_is file e n m = e ∙ ap₂ blocks_of n m
 
 pub loop-b-init : goal.loop-b-init
-loop-b-init c =
-    (total_is c.args.file.now _ _ _ _ c.vertices.ensures.is c.edges.ensures.is c.vertex_blocks.ensures c.target_blocks.ensures, passing_none)
+loop-b-init c = passing_none
 
-pub block-tested-requires : goal.block-tested-requires
-block-tested-requires c = passing_present _ _ c.loop-b.invariant.0 _ c.requires c.loop-b-test.true
+pub block-requires : goal.block-requires
+block-requires c = passing_present _ _ (all_is c.args.file.now c.all_blocks-b-end.ensures c.vertices.ensures.is c.edges.ensures.is) _ c.requires c.loop-b-test.true
 
-pub returns-in-Refused : goal.returns-in-Refused
-returns-in-Refused c =
-    passing_first _ _ c.loop-b.invariant.0 _ c.loop-b.invariant.1 c.loop-b-test.true _ _ (tested_refused (block_rows _ _) c.in-Refused.is c.block-tested.ensures)
+pub returns-in_err-block : goal.returns-in_err-block
+returns-in_err-block c =
+    passing_first _ _ (all_is c.args.file.now c.all_blocks-b-end.ensures c.vertices.ensures.is c.edges.ensures.is) _ c.loop-b.invariant c.loop-b.auto.b c.loop-b-test.true c.block.ensures c.in_err-block.was (search rules)
 
 pub loop-b-preserved : goal.loop-b-preserved
-loop-b-preserved c =
-    let i = c.loop-b.invariant in
-    (i.0, passing_more i.1 (tested_passed (block_rows _ _) c.in_default.is c.block-tested.ensures))
+loop-b-preserved c = passing_more c.loop-b.invariant (passed_front (block_rows _ _) c.block.ensures c.in_ok-block.was)
 
 pub returns : goal.returns
-returns c = passing_all _ _ c.loop-b.invariant.0 _ c.loop-b.invariant.1 c.loop-b-test.false
+returns c = passing_all _ _ (all_is c.args.file.now c.all_blocks-b-end.ensures c.vertices.ensures.is c.edges.ensures.is) _ c.loop-b.invariant c.loop-b-test.false

@@ -1,21 +1,19 @@
 -- `checker::check` meets its contract: 1 to 8, and then what is judged (Verdicts).
+use borrow.Author.Rules.{rules}
 use mathlib.Core.Path.{refl}
 use native.Mathlib.Omega.{arith}
-use Rattle.refusal.specs.promise.Row.{None}
-use Rattle.refusal.proofs.Rows.{Given, passed}
-use Rattle.game.specs.promise.Lent.{asked}
-use Rattle.storage.specs.promise.Lent.{claim}
+use Rattle.refusal.proofs.Rows.{passed_front}
+use Rattle.storage.specs.promise.Lent.{lent_rows}
 use Rattle.storage.proofs.Passed.{lent_formed, lent_fit}
-use Rattle.checker.specs.promise.Checking.{before_rows}
 use Rattle.checker.proofs.Verdicts.{checked_before, checked_judged}
 use Rattle.checker.proofs.check.Goals as goal
 
-pub returns-in-Refused : goal.returns-in-Refused
-returns-in-Refused c = checked_before _ _ _ c.in-Refused.is ((let said_here : Given (before_rows ((let a = c.args in asked a.owners a.priorities a.starts a.targets)) ((let a = c.args in claim a.winners a.moves)) c.args.work.now) c.test_lent-tested.result = record { gives = c.test_lent-tested.ensures } in said_here))
+pub returns-in_err-test_lent : goal.returns-in_err-test_lent
+returns-in_err-test_lent c = checked_before _ _ _ c.test_lent.ensures c.in_err-test_lent.was (search rules)
 
 pub judge_in-requires : goal.judge_in-requires
 judge_in-requires c =
-    let n = (let none_here : None (before_rows ((let a = c.args in asked a.owners a.priorities a.starts a.targets)) ((let a = c.args in claim a.winners a.moves)) c.args.work.now) = passed c.in_default.is ((let said_here : Given (before_rows ((let a = c.args in asked a.owners a.priorities a.starts a.targets)) ((let a = c.args in claim a.winners a.moves)) c.args.work.now) c.test_lent-tested.result = record { gives = c.test_lent-tested.ensures } in said_here)) in none_here) in
+    let n = passed_front (lent_rows _ _ _ _) c.test_lent.ensures c.in_ok-test_lent.was in
     let f = lent_fit _ _ _ _ n in
     record {
       passed =
@@ -33,4 +31,4 @@ judge_in-requires c =
     }
 
 pub returns : goal.returns
-returns c = checked_judged _ _ _ _ c.judge_in.result ((let none_here : None (before_rows ((let a = c.args in asked a.owners a.priorities a.starts a.targets)) ((let a = c.args in claim a.winners a.moves)) c.args.work.now) = passed c.in_default.is ((let said_here : Given (before_rows ((let a = c.args in asked a.owners a.priorities a.starts a.targets)) ((let a = c.args in claim a.winners a.moves)) c.args.work.now) c.test_lent-tested.result = record { gives = c.test_lent-tested.ensures } in said_here)) in none_here)) c.judge_in.ensures
+returns c = checked_judged _ _ _ _ c.judge_in.result (passed_front (lent_rows _ _ _ _) c.test_lent.ensures c.in_ok-test_lent.was) c.judge_in.ensures

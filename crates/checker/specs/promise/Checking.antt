@@ -1,20 +1,12 @@
 -- What the checker promises: its verdict, and what the work space holds afterwards. (docs/RULES.md, Entry points)
 use Rattle.std.specs.Prelude.{ℕ, ◌≡◌, List, [], ◌∷◌, ◌++◌, length}
 use Rattle.refusal.specs.promise.Row.{Row, row, Said, success, refused, None, First}
-use Rattle.refusal.specs.promise.Number.{said_of}
 use Rattle.game.specs.promise.Tables.{Tables, vertices, game_of}
 use Rattle.storage.specs.promise.Answer.{Answer, mark_of, move_of}
 use Rattle.storage.specs.promise.Faults.{Fault11}
 use Rattle.storage.specs.promise.Lent.{lent_rows, Judging, Zeroed, Leaves}
 use Rattle.winning.specs.promise.Answer.{Right}
 use Rattle.winning.specs.promise.Faults.{answer_rows}
-use Rattle.checker.specs.declared.Verdict.{Verdict}
-use Rattle.checker.specs.declared.Verdict.TheVariants.{Accepted, Refused}
-
--- in numbers: nothing, or the refusal
-abbrev pub verdict_said : Verdict → Said
-verdict_said Accepted = success []
-verdict_said (Refused r) = said_of r
 
 -- the answer is right for the game of the tables
 abbrev pub IsRight : Tables → Answer → Type 0

@@ -1,13 +1,7 @@
 -- `engine::no_lines` meets its contract. The invariant, `Emptying`: the lines below k are empty.
-use Prim.Native.Nat.{◌-◌}
-use mathlib.Core.Path.{◌≡◌}
-use lib.ListN.{length}
 use Rattle.space.specs.parts.Desk.{desk_of}
 use Rattle.engine.proofs.LinedUp.{Emptying}
 use Rattle.engine.proofs.no_lines.Given as goal
 
 abbrev pub invariant-loop-k : goal.invariant-loop-k
-invariant-loop-k l = (length l.desk ≡ length l.initial.desk) × Emptying (desk_of l.initial.desk) (desk_of l.desk) l.k
-
-abbrev pub decreases-loop-k : goal.decreases-loop-k
-decreases-loop-k l = 256 - l.k
+invariant-loop-k l = Emptying (desk_of l.initial.desk) (desk_of l.desk) l.k

@@ -7,22 +7,22 @@ use native.Mathlib.Omega.{arith}
 use Rattle.faults.proofs.order.Goals as goal
 
 pub loop-v-init : goal.loop-v-init
-loop-v-init c = (search rules, scan_none)
+loop-v-init c = scan_none
 
 pub successors-requires : goal.successors-requires
 successors-requires c = stretch_of _ _ _ c.requires _ (search rules)
 
 pub overflow_add-result : goal.overflow_add-result
 overflow_add-result c =
-    omega (arith, order_within _ _ _ c.requires _ _ _ _ _ (search rules) c.successors.ensures c.in-At.is c.descent-found.ensures c.wide.ensures, c.well_formed)
+    omega (arith, order_within _ _ _ c.requires _ _ _ _ _ (search rules) c.successors.ensures c.in-Some.is c.descent.ensures c.wide.ensures, c.well_formed)
 
-pub returns-in-At : goal.returns-in-At
-returns-in-At c =
-    order_found _ _ _ c.requires _ _ _ _ _ (search rules) c.successors.ensures c.in-At.is c.descent-found.ensures c.wide.ensures c.loop-v.invariant.1
+pub returns-in-Some : goal.returns-in-Some
+returns-in-Some c =
+    order_found _ _ _ c.requires _ _ _ _ _ (search rules) c.successors.ensures c.in-Some.is c.descent.ensures c.wide.ensures c.loop-v.invariant
 
 pub loop-v-preserved : goal.loop-v-preserved
 loop-v-preserved c =
-    (search rules, order_more _ _ _ _ _ c.successors.ensures c.in_default.is c.descent-found.ensures c.loop-v.invariant.1)
+    order_more _ _ _ _ _ c.successors.ensures c.in_default.is c.descent.ensures c.loop-v.invariant
 
 pub returns : goal.returns
-returns c = order_none _ _ _ _ (search rules) c.loop-v.invariant.1
+returns c = order_none _ _ _ _ (search rules) c.loop-v.invariant

@@ -9,20 +9,20 @@ pub returns-then-starts-ne0 : goal.returns-then-starts-ne0
 returns-then-starts-ne0 c = first_found _ _ c.if-starts-ne0.true
 
 pub loop-v-init : goal.loop-v-init
-loop-v-init c = (search rules, search rules, rising_one)
+loop-v-init c = rising_one
 
 pub returns-then-starts-v : goal.returns-then-starts-v
 returns-then-starts-v c =
-    below_found _ _ _ c.if-starts-ne0.false c.loop-v.invariant.0 (search rules) c.loop-v.invariant.2 c.if-starts-v.true
+    below_found _ _ _ c.if-starts-ne0.false (search rules) (search rules) c.loop-v.invariant c.if-starts-v.true
 
 pub loop-v-preserved : goal.loop-v-preserved
 loop-v-preserved c =
-    (search rules, search rules, rising_more _ _ c.loop-v.invariant.0 c.if-starts-v.false c.loop-v.invariant.2)
+    rising_more _ _ (search rules) c.if-starts-v.false c.loop-v.invariant
 
 pub returns-then-wide-targets : goal.returns-then-wide-targets
 returns-then-wide-targets c =
-    last_found _ _ _ c.if-starts-ne0.false (search rules) (rising_to (search rules) c.loop-v.invariant.2) (λ e. c.if-wide-targets.true (c.wide.ensures ∙ e))
+    last_found _ _ _ c.if-starts-ne0.false (search rules) (rising_to (search rules) c.loop-v.invariant) (λ e. c.if-wide-targets.true (c.wide.ensures ∙ e))
 
 pub returns : goal.returns
 returns c =
-    none_found _ _ _ c.if-starts-ne0.false (search rules) (rising_to (search rules) c.loop-v.invariant.2) (sym c.wide.ensures ∙ c.if-wide-targets.false)
+    none_found _ _ _ c.if-starts-ne0.false (search rules) (rising_to (search rules) c.loop-v.invariant) (sym c.wide.ensures ∙ c.if-wide-targets.false)

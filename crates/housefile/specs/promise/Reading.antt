@@ -1,18 +1,18 @@
 -- What the reader promises: what it says and what the lent tables hold afterwards. (docs/RULES.md, Entry points)
-use Rattle.std.specs.Prelude.{ℕ, ◌≡◌, List, [], ◌∷◌}
+use Rattle.std.specs.Prelude.{ℕ, ◌≡◌, List, [], ◌∷◌, Result, Ok, Err}
 use Rattle.refusal.specs.promise.Row.{Said, success, refused, None, First}
 use Rattle.refusal.specs.promise.Number.{said_of}
 use Rattle.game.specs.promise.Tables.{Tables}
-use Rattle.housefile.specs.declared.Read.{Read}
-use Rattle.housefile.specs.declared.Read.TheVariants.{Game, Refused}
+use Rattle.refusal.specs.declared.Refusal.{Refusal}
+use Rattle.housefile.specs.declared.Header.{Header}
 use Rattle.format.specs.promise.Filed.{vertices_filed, edges_filed, tables_filed}
 use Rattle.decoding.specs.promise.Holding.{Holding}
 use Rattle.housefile.specs.promise.Faults.{file_rows}
 
 -- in numbers: n and the number of edges, or the refusal
-abbrev pub read_said : Read → Said
-read_said (Game h) = success (h.vertices ∷ h.edges ∷ [])
-read_said (Refused r) = said_of r
+abbrev pub read_said : Result Header Refusal → Said
+read_said (Ok h) = success (h.vertices ∷ h.edges ∷ [])
+read_said (Err r) = said_of r
 
 module _ (file : List ℕ) (before after : Tables) where
   -- success: no row applies, and the tables hold those of the file's game

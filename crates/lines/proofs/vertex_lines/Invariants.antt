@@ -1,10 +1,7 @@
--- `lines::vertex_lines` meets its contract. Line by line (Lined).
-use Prim.Native.Nat.{◌-◌}
-use Rattle.lines.proofs.Lined.{Lined}
+-- `lines::vertex_lines` meets its contract. The lines of the vertices below this one are appended.
+use Rattle.text.specs.parts.Append.{Appended}
+use Rattle.lines.specs.promise.Lines.{vertex_lines}
 use Rattle.lines.proofs.vertex_lines.Given as goal
 
 abbrev pub invariant-loop-v : goal.invariant-loop-v
-invariant-loop-v l = Lined l.n l.owners l.priorities l.winners l.moves l.initial.text l.at l.text l.next l.v
-
-abbrev pub decreases-loop-v : goal.decreases-loop-v
-decreases-loop-v l = l.n - l.v
+invariant-loop-v l = Appended l.initial.text l.text l.at (vertex_lines l.owners l.priorities l.winners l.moves l.v) l.next

@@ -1,12 +1,12 @@
 -- What the program's parts promise one another.
-use Rattle.std.specs.Prelude.{ℕ, ◌+◌, ◌≤◌, List, length, take}
+use Rattle.std.specs.Prelude.{ℕ, ◌+◌, ◌≤◌, List, length, take, Result, Ok, Err}
 use Rattle.refusal.specs.promise.Number.{number_of}
 use Rattle.game.specs.promise.Tables.{Tables, tables_of, vertices, WellFormed}
 use Rattle.storage.specs.promise.Answer.{Answer}
 use Rattle.game.specs.promise.Lent.{Fit}
 use Rattle.storage.specs.promise.Lent.{Lent, lent_sizes}
-use Rattle.housefile.specs.declared.Read.{Read}
-use Rattle.housefile.specs.declared.Read.TheVariants.{Game, Refused}
+use Rattle.housefile.specs.declared.Header.{Header}
+use Rattle.refusal.specs.declared.Refusal.{Refusal}
 use Rattle.solver.specs.promise.Solving.{IsSolution}
 use Rattle.lines.specs.promise.Lines.{refused_line}
 use Rattle.listing.specs.promise.Listing.{game_text}
@@ -41,11 +41,11 @@ pub record AnswerListed (t : Tables) (before after : List ℕ) (r : ℕ) : Type 
   pub done : Appended before after 0 (game_text (vertices t) (length t.targets) t answer) r
 
 -- what was read, as the tables must hold it: at their beginnings, a well-formed game
-abbrev pub Tellable : Read → Tables → Type 0
-Tellable (Game h) t = Tabled h.vertices h.edges t
-Tellable (Refused f) t = Unit {0}
+abbrev pub Tellable : Result Header Refusal → Tables → Type 0
+Tellable (Ok h) t = Tabled h.vertices h.edges t
+Tellable (Err f) t = Unit {0}
 
 -- what was read, as it is told: the lines of its game, or the line of its refusal
-abbrev pub Told : Read → Tables → (before after : List ℕ) → ℕ → Type 0
-Told (Game h) t before after r = AnswerListed (front_of h.vertices h.edges t) before after r
-Told (Refused f) t before after r = Appended before after 0 (refused_line (number_of f.kind) f.place) r
+abbrev pub Told : Result Header Refusal → Tables → (before after : List ℕ) → ℕ → Type 0
+Told (Ok h) t before after r = AnswerListed (front_of h.vertices h.edges t) before after r
+Told (Err f) t before after r = Appended before after 0 (refused_line (number_of f.kind) f.place) r

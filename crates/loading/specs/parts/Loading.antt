@@ -1,8 +1,8 @@
 -- The steps of the reader: what is judged before the tables are decoded, and the tables into which they are.
-use Rattle.std.specs.Prelude.{ℕ, List, [], ◌∷◌, ◌++◌}
+use Rattle.std.specs.Prelude.{ℕ, List, [], ◌∷◌, ◌++◌, Result}
 use Rattle.refusal.specs.promise.Row.{Row, row, None, Gives}
-use Rattle.refusal.specs.parts.Found.{tested_said}
-use Rattle.refusal.specs.declared.Tested.{Tested}
+use Rattle.refusal.specs.promise.Number.{tested_said}
+use Rattle.refusal.specs.declared.Refusal.{Refusal}
 use Rattle.game.specs.promise.Tables.{Tables, tables_of}
 use Rattle.format.specs.promise.Filed.{tables_filed}
 use Rattle.format.specs.promise.Faults.{Fault45, head_rows, turn_rows}
@@ -17,6 +17,6 @@ abbrev pub blank : Tables
 blank = tables_of [] [] [] []
 
 -- what is said of the rows; and where none applies, the tables hold those of the file's game
-pub record Loads (rows : List Row) (file : List ℕ) (t : Tables) (r : Tested) : Type 0 where
+pub record Loads (rows : List Row) (file : List ℕ) (t : Tables) (r : Result Unit Refusal) : Type 0 where
   pub said : Gives rows (tested_said r)
   pub holds : None rows → Holding (tables_filed file) t

@@ -1,5 +1,5 @@
 -- What an open vertex is offered through a successor. Floors say below which priority its support leads to no open vertex.
-use Rattle.std.specs.Prelude.{ℕ, ◌*◌, ◌<◌, ◌≤◌, ◌≡◌, ◌≢◌, List, length, get_or}
+use Rattle.std.specs.Prelude.{ℕ, ◌*◌, ◌<◌, ◌≤◌, ◌≡◌, ◌≢◌, List, length, get_or, Option, Some, None}
 use Rattle.player.specs.promise.Player.{IsPlayer}
 use Rattle.game.specs.promise.Game.{Edge}
 use Rattle.game.specs.promise.Tables.{game_of, WellFormed, Tables, vertices}
@@ -7,11 +7,8 @@ use Rattle.storage.specs.promise.Answer.{mark_of}
 use Rattle.storage.specs.parts.Answers.{Stored}
 use Rattle.space.specs.parts.Desk.{Desk, Laid}
 use Rattle.justification.specs.parts.Step.{TestGives}
+use Rattle.line.specs.declared.Line.{Line}
 use Rattle.levels.specs.parts.Levels.{settled_of, FloorOf}
-use Rattle.offer.specs.declared.Ground.{Ground}
-use Rattle.offer.specs.declared.Ground.TheVariants.{Level, None}
-use Rattle.offer.specs.declared.Chance.{Chance}
-use Rattle.offer.specs.declared.Chance.TheVariants.{Gets, Nothing}
 
 -- every vertex has a priority, a level, a mark and a flag
 pub record Known (priorities : List ℕ) (d : Desk) (winners work : List ℕ) : Type 0 where
@@ -38,8 +35,8 @@ pub record Grounded (winner bound : ℕ) (stretch priorities levels winners work
   pub grounds : (i : ℕ) → i < length stretch → Grounds priorities levels work level (get_or stretch i 0)
 
 -- what the look at a stretch says; that it finds no level says nothing
-abbrev pub AllFor : (winner bound : ℕ) (stretch priorities levels winners work : List ℕ) → Ground → Type 0
-AllFor winner bound stretch priorities levels winners work (Level l) = Grounded winner bound stretch priorities levels winners work l
+abbrev pub AllFor : (winner bound : ℕ) (stretch priorities levels winners work : List ℕ) → Option ℕ → Type 0
+AllFor winner bound stretch priorities levels winners work (Some l) = Grounded winner bound stretch priorities levels winners work l
 AllFor winner bound stretch priorities levels winners work None = Unit {0}
 
 -- an edge of a well-formed game whose vertices are seen
@@ -58,6 +55,6 @@ pub record Offered (x p m level : ℕ) (tables : Tables) (levels winners work : 
   pub grounds : (w : ℕ) → Edge (game_of tables) x w → (get_or tables.owners x 0 ≡ p → w ≡ m) → Grounds tables.priorities levels work level w
 
 -- what is offered; that nothing is offered says nothing
-abbrev pub Offers : (x : ℕ) (tables : Tables) (levels winners work : List ℕ) → Chance → Type 0
-Offers x tables levels winners work (Gets line) = Offered x line.winner line.to line.level tables levels winners work
-Offers x tables levels winners work Nothing = Unit {0}
+abbrev pub Offers : (x : ℕ) (tables : Tables) (levels winners work : List ℕ) → Option Line → Type 0
+Offers x tables levels winners work (Some line) = Offered x line.winner line.to line.level tables levels winners work
+Offers x tables levels winners work None = Unit {0}

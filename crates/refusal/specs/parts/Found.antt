@@ -1,41 +1,22 @@
--- What a test of one row promises, and how what is found joins what was said before.
-use Rattle.std.specs.Prelude.{ℕ, ◌<◌, ◌≡◌, []}
-use Rattle.refusal.specs.promise.Row.{Said, success, Lowest, NoPlace}
-use Rattle.refusal.specs.promise.Number.{said_of}
-use Rattle.refusal.specs.declared.Found.{Found}
-use Rattle.refusal.specs.declared.Found.TheVariants.{At, Nowhere}
-use Rattle.refusal.specs.declared.Tested.{Tested}
-use Rattle.refusal.specs.declared.Tested.TheVariants.{Passed, Refused}
+-- What a test of one row promises, and the refusal for what it finds.
+use Rattle.std.specs.Prelude.{ℕ, ◌<◌, ◌≡◌, Option, Some, None, Result, Ok, Err}
+use Rattle.refusal.specs.promise.Row.{Lowest, NoPlace}
+use Rattle.refusal.specs.declared.Refusal.{Refusal}
 use Rattle.refusal.specs.declared.Kind.{Kind}
 
 -- the lowest place at which P holds, or nothing if it holds nowhere
-abbrev pub Finds : (ℕ → Type 0) → Found → Type 0
-Finds P (At x) = Lowest P x
-Finds P Nowhere = NoPlace P
+abbrev pub Finds : (ℕ → Type 0) → Option ℕ → Type 0
+Finds P (Some x) = Lowest P x
+Finds P None = NoPlace P
 
--- what tests say in numbers
-abbrev pub tested_said : Tested → Said
-tested_said Passed = success []
-tested_said (Refused r) = said_of r
-
--- what was said, or else a refusal for what is found
-abbrev pub or_of : Tested → Found → Kind → Tested
-or_of (Refused r) f k = Refused r
-or_of Passed (At x) k = Refused (record { kind = k; place = x })
-or_of Passed Nowhere k = Passed
+-- the refusal for what is found, if anything is
+abbrev pub refused_at : Option ℕ → Kind → Result Unit Refusal
+refused_at (Some x) k = Err (record { kind = k; place = x })
+refused_at None k = Ok tt
 
 -- r is that
-pub record Joins (said : Tested) (found : Found) (kind : Kind) (r : Tested) : Type 0 where
-  pub is : r ≡ or_of said found kind
-
--- what was said, or else what is said next
-abbrev pub then_of : Tested → Tested → Tested
-then_of (Refused r) t = Refused r
-then_of Passed t = t
-
--- r is that
-pub record Follows (said next r : Tested) : Type 0 where
-  pub is : r ≡ then_of said next
+pub record Refuses (found : Option ℕ) (kind : Kind) (r : Result Unit Refusal) : Type 0 where
+  pub is : r ≡ refused_at found kind
 
 -- a scan goes over the places from 0 on: it has passed those below i, and P holds at none of them
 pub record Scanned (P : ℕ → Type 0) (i : ℕ) : Type 0 where

@@ -1,6 +1,6 @@
 -- The number of every kind of refusal. (docs/RULES.md, Refusals)
-use Rattle.std.specs.Prelude.{ℕ, ◌+◌}
-use Rattle.refusal.specs.promise.Row.{Said, refused}
+use Rattle.std.specs.Prelude.{ℕ, ◌+◌, [], Result, Ok, Err}
+use Rattle.refusal.specs.promise.Row.{Said, success, refused}
 use Rattle.refusal.specs.declared.TableFault.{TableFault}
 use Rattle.refusal.specs.declared.TableFault.TheVariants as table
 use Rattle.refusal.specs.declared.AnswerFault.{AnswerFault}
@@ -49,3 +49,8 @@ number_of (Filed f) = file_number f
 -- what a refusal says: its number and place
 abbrev pub said_of : Refusal → Said
 said_of r = refused (number_of r.kind) r.place
+
+-- what tests say, and entry points that give no value: a success, or the refusal
+abbrev pub tested_said : Result Unit Refusal → Said
+tested_said (Ok u) = success []
+tested_said (Err r) = said_of r

@@ -1,5 +1,4 @@
 -- `rounds::finish` meets its contract: each turn brings the measure down, and when nothing is open the answer is accepted (Running).
-use mathlib.Core.Path.{◌≡◌}
 use lib.ListN.{length}
 use Rattle.game.specs.promise.Tables.{game_of, tables_of}
 use Rattle.storage.specs.promise.Answer.{mark_of}
@@ -10,7 +9,7 @@ use Rattle.step.specs.parts.Stepping.{Moved}
 use Rattle.rounds.proofs.finish.Given as goal
 
 abbrev pub invariant-loop : goal.invariant-loop
-invariant-loop l = (length l.desk ≡ length l.initial.desk) × Moved (tables_of l.owners l.priorities l.starts l.targets) l.ins l.froms l.initial.winners l.initial.moves l.initial.work (desk_of l.desk) l.winners l.moves l.work
+invariant-loop l = Moved (tables_of l.owners l.priorities l.starts l.targets) l.ins l.froms l.initial.winners l.initial.moves l.initial.work (desk_of l.desk) l.winners l.moves l.work
 
 abbrev pub decreases-loop : goal.decreases-loop
 decreases-loop l = measure (game_of (tables_of l.owners l.priorities l.starts l.targets)) (mark_of l.winners) (settled_of (length l.owners) l.work)

@@ -1,18 +1,10 @@
 -- What the solver promises: what it says, and what winners, moves and work space hold afterwards. (docs/RULES.md, Entry points)
 use Rattle.std.specs.Prelude.{ℕ, ◌≡◌, List, [], length}
 use Rattle.refusal.specs.promise.Row.{Row, Said, success, refused, None, First}
-use Rattle.refusal.specs.promise.Number.{said_of}
 use Rattle.game.specs.promise.Tables.{Tables, game_of}
 use Rattle.storage.specs.promise.Answer.{Answer, mark_of, move_of}
 use Rattle.storage.specs.promise.Lent.{Lent, lent_rows, Zeroed}
 use Rattle.winning.specs.promise.Answer.{Solution}
-use Rattle.solver.specs.declared.Solved.{Solved}
-use Rattle.solver.specs.declared.Solved.TheVariants.{Done, Refused}
-
--- in numbers: nothing, or the refusal
-abbrev pub solved_said : Solved → Said
-solved_said Done = success []
-solved_said (Refused r) = said_of r
 
 -- the answer is a solution of the game of the tables
 abbrev pub IsSolution : Tables → Answer → Type 0

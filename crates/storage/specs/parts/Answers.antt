@@ -1,9 +1,7 @@
 -- Lists of winners and moves: what writing gives, and what the one-vertex test gives.
-use Rattle.std.specs.Prelude.{ℕ, ◌<◌, ◌≡◌, ◌≢◌, List, length, get_or}
+use Rattle.std.specs.Prelude.{ℕ, ◌<◌, ◌≡◌, ◌≢◌, List, length, get_or, Option, Some, None}
 use Rattle.refusal.specs.promise.Row.{Lowest, NoPlace}
 use Rattle.storage.specs.promise.Answer.{winner_cells, mark_of, move_of}
-use Rattle.storage.specs.declared.vertex.Choice.{Choice}
-use Rattle.storage.specs.declared.vertex.Choice.TheVariants.{To, Nobody}
 
 -- a list of the winners of n vertices
 pub record Stored (n : ℕ) (winners : List ℕ) : Type 0 where
@@ -37,6 +35,6 @@ pub record FirstFor (p : ℕ) (mark : ℕ → ℕ) (next : List ℕ) (w : ℕ) :
   pub is : w ≡ get_or next at 0
 
 -- the one-vertex test: the first successor that is marked for the owner, or that none is
-abbrev pub Chooses : ℕ → (ℕ → ℕ) → List ℕ → Choice → Type 0
-Chooses p mark next (To w) = FirstFor p mark next w
-Chooses p mark next Nobody = NoPlace (MarkedFor p mark next)
+abbrev pub Chooses : ℕ → (ℕ → ℕ) → List ℕ → Option ℕ → Type 0
+Chooses p mark next (Some w) = FirstFor p mark next w
+Chooses p mark next None = NoPlace (MarkedFor p mark next)

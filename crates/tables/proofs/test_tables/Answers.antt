@@ -1,41 +1,40 @@
--- `tables::test_tables` meets its contract: each test joins its row to what was said so far.
+-- `tables::test_tables` meets its contract: each test's row comes after those that have passed.
 use mathlib.Core.List.{[], ◌∷◌}
+use borrow.Author.Rules.{rules}
 use native.Mathlib.Omega.{arith}
-use Rattle.refusal.specs.promise.Row.{row}
-use Rattle.refusal.proofs.Rows.{Given, so_far, also, whatever, passed, none_of}
-use Rattle.game.specs.promise.Tables.{vertices, Placed}
+use Rattle.refusal.specs.promise.Row.{row, NoPlace, None}
+use Rattle.refusal.proofs.Rows.{row_passed, row_first, row_last, later}
+use Rattle.game.specs.promise.Tables.{Tables}
 use Rattle.game.specs.promise.Faults.{Fault1, Fault2, Fault3, Fault4, Fault5, Fault6, Fault7, entry_rows, stretch_rows}
 use Rattle.game.specs.promise.Lent.{asked}
 use Rattle.game.proofs.Starts.{placed_of}
-use Rattle.game.proofs.Sizes.{Fitting, fitting_of_none}
+use Rattle.game.proofs.Sizes.{fitting_of_none}
 use Rattle.tables.proofs.test_tables.Goals as goal
 
-pub returns-in-Refused : goal.returns-in-Refused
-returns-in-Refused c = whatever (row 2 (Fault2 _) ∷ row 3 (Fault3 _) ∷ row 4 (Fault4 _ _) ∷ stretch_rows ((let a = c.args in asked a.owners a.priorities a.starts a.targets))) c.in-Refused.is ((let said1_here : Given (row 1 (Fault1 ((let a = c.args in asked a.owners a.priorities a.starts a.targets))) ∷ []) c.or-one.result = also (Fault1 _) c.or-one.ensures so_far c.sizes-sizes.ensures in said1_here))
-
 pub start-requires : goal.start-requires
-start-requires c = omega (arith, ((let fitting_here : Fitting ((let a = c.args in asked a.owners a.priorities a.starts a.targets)) = fitting_of_none _ (passed c.in_default.is ((let said1_here : Given (row 1 (Fault1 ((let a = c.args in asked a.owners a.priorities a.starts a.targets))) ∷ []) c.or-one.result = also (Fault1 _) c.or-one.ensures so_far c.sizes-sizes.ensures in said1_here))).0 in fitting_here)).bounds)
-
-pub returns-in-Refused-four : goal.returns-in-Refused-four
-returns-in-Refused-four c = whatever (stretch_rows ((let a = c.args in asked a.owners a.priorities a.starts a.targets))) c.in-Refused-four.is ((let said4_here : Given (entry_rows ((let a = c.args in asked a.owners a.priorities a.starts a.targets))) c.or-four.result = also (Fault4 _ _) c.or-four.ensures
-    (also (Fault3 _) c.or-three.ensures
-    (also (Fault2 _) c.or-two.ensures ((let said1_here : Given (row 1 (Fault1 ((let a = c.args in asked a.owners a.priorities a.starts a.targets))) ∷ []) c.or-one.result = also (Fault1 _) c.or-one.ensures so_far c.sizes-sizes.ensures in said1_here)) c.owner.ensures) c.priority.ensures) c.start.ensures in said4_here))
+start-requires c = omega (arith, (fitting_of_none _ (row_passed (Fault1 _) c.refuse.ensures c.sizes.ensures c.in_ok-refuse.was)).bounds)
 
 pub stuck-requires : goal.stuck-requires
-stuck-requires c = (let placed_here : let t = (let a = c.args in asked a.owners a.priorities a.starts a.targets) in Placed (vertices t) t.starts t.targets = placed_of _ _ _ ((let fitting_here : Fitting ((let a = c.args in asked a.owners a.priorities a.starts a.targets)) = fitting_of_none _ (passed c.in_default.is ((let said1_here : Given (row 1 (Fault1 ((let a = c.args in asked a.owners a.priorities a.starts a.targets))) ∷ []) c.or-one.result = also (Fault1 _) c.or-one.ensures so_far c.sizes-sizes.ensures in said1_here))).0 in fitting_here)).bounds
-    (none_of 4 (entry_rows _) (passed c.in_default-four.is ((let said4_here : Given (entry_rows ((let a = c.args in asked a.owners a.priorities a.starts a.targets))) c.or-four.result = also (Fault4 _ _) c.or-four.ensures
-    (also (Fault3 _) c.or-three.ensures
-    (also (Fault2 _) c.or-two.ensures ((let said1_here : Given (row 1 (Fault1 ((let a = c.args in asked a.owners a.priorities a.starts a.targets))) ∷ []) c.or-one.result = also (Fault1 _) c.or-one.ensures so_far c.sizes-sizes.ensures in said1_here)) c.owner.ensures) c.priority.ensures) c.start.ensures in said4_here)))) in placed_here)
+stuck-requires c =
+    placed_of _ _ _ (fitting_of_none _ (row_passed (Fault1 _) c.refuse.ensures c.sizes.ensures c.in_ok-refuse.was)).bounds (row_passed (Fault4 _ _) c.refuse-4.ensures c.start.ensures c.in_ok-refuse-4.was)
 
 pub order-requires : goal.order-requires
-order-requires c = (let placed_here : let t = (let a = c.args in asked a.owners a.priorities a.starts a.targets) in Placed (vertices t) t.starts t.targets = placed_of _ _ _ ((let fitting_here : Fitting ((let a = c.args in asked a.owners a.priorities a.starts a.targets)) = fitting_of_none _ (passed c.in_default.is ((let said1_here : Given (row 1 (Fault1 ((let a = c.args in asked a.owners a.priorities a.starts a.targets))) ∷ []) c.or-one.result = also (Fault1 _) c.or-one.ensures so_far c.sizes-sizes.ensures in said1_here))).0 in fitting_here)).bounds
-    (none_of 4 (entry_rows _) (passed c.in_default-four.is ((let said4_here : Given (entry_rows ((let a = c.args in asked a.owners a.priorities a.starts a.targets))) c.or-four.result = also (Fault4 _ _) c.or-four.ensures
-    (also (Fault3 _) c.or-three.ensures
-    (also (Fault2 _) c.or-two.ensures ((let said1_here : Given (row 1 (Fault1 ((let a = c.args in asked a.owners a.priorities a.starts a.targets))) ∷ []) c.or-one.result = also (Fault1 _) c.or-one.ensures so_far c.sizes-sizes.ensures in said1_here)) c.owner.ensures) c.priority.ensures) c.start.ensures in said4_here)))) in placed_here)
+order-requires c =
+    placed_of _ _ _ (fitting_of_none _ (row_passed (Fault1 _) c.refuse.ensures c.sizes.ensures c.in_ok-refuse.was)).bounds (row_passed (Fault4 _ _) c.refuse-4.ensures c.start.ensures c.in_ok-refuse-4.was)
+
+-- rows 1 to 4 have passed
+passed_entry : {t : Tables} → NoPlace (Fault1 t) → NoPlace (Fault2 t.owners) → NoPlace (Fault3 t.priorities) → NoPlace (Fault4 t.starts t.targets) → None (entry_rows t)
+passed_entry one two three four = (one, (two, (three, (four, tt))))
+
+pub returns-in_err-refuse-5 : goal.returns-in_err-refuse-5
+returns-in_err-refuse-5 c =
+    let entry = passed_entry (row_passed (Fault1 _) c.refuse.ensures c.sizes.ensures c.in_ok-refuse.was) (row_passed (Fault2 _) c.refuse-2.ensures c.owner.ensures c.in_ok-refuse-2.was) (row_passed (Fault3 _) c.refuse-3.ensures c.priority.ensures c.in_ok-refuse-3.was) (row_passed (Fault4 _ _) c.refuse-4.ensures c.start.ensures c.in_ok-refuse-4.was) in
+    row_first (entry_rows _) (Fault5 _ _ _) (row 6 (Fault6 _ _) ∷ row 7 (Fault7 _ _ _) ∷ []) entry c.refuse-5.ensures c.stuck.ensures c.in_err-refuse-5.was (search rules)
 
 pub returns : goal.returns
-returns c = (also (Fault7 _ _ _) c.or.ensures
-    (also (Fault6 _ _) c.or-six.ensures
-    (also (Fault5 _ _ _) c.or-five.ensures ((let said4_here : Given (entry_rows ((let a = c.args in asked a.owners a.priorities a.starts a.targets))) c.or-four.result = also (Fault4 _ _) c.or-four.ensures
-    (also (Fault3 _) c.or-three.ensures
-    (also (Fault2 _) c.or-two.ensures ((let said1_here : Given (row 1 (Fault1 ((let a = c.args in asked a.owners a.priorities a.starts a.targets))) ∷ []) c.or-one.result = also (Fault1 _) c.or-one.ensures so_far c.sizes-sizes.ensures in said1_here)) c.owner.ensures) c.priority.ensures) c.start.ensures in said4_here)) c.stuck.ensures) c.target.ensures) c.order.ensures).gives
+returns c =
+    let entry = passed_entry (row_passed (Fault1 _) c.refuse.ensures c.sizes.ensures c.in_ok-refuse.was) (row_passed (Fault2 _) c.refuse-2.ensures c.owner.ensures c.in_ok-refuse-2.was) (row_passed (Fault3 _) c.refuse-3.ensures c.priority.ensures c.in_ok-refuse-3.was) (row_passed (Fault4 _ _) c.refuse-4.ensures c.start.ensures c.in_ok-refuse-4.was) in
+    let five = row_passed (Fault5 _ _ _) c.refuse-5.ensures c.stuck.ensures c.in_ok-refuse-5.was in
+    let a = c.args in
+    let six = row_passed (Fault6 _ _) c.refuse-6.ensures c.target.ensures c.in_ok-refuse-6.was in
+    later (entry_rows _) (stretch_rows (asked a.owners a.priorities a.starts a.targets)) _ entry (row_last (row 5 (Fault5 _ _ _) ∷ row 6 (Fault6 _ _) ∷ []) (Fault7 _ _ _) (five, (six, tt)) c.refuse-7.ensures c.order.ensures)

@@ -1,21 +1,13 @@
 -- `text::pair` meets its contract. The word, the space, then the two fields (Fields).
-use Rattle.text.proofs.Fields.{pair_word, pair_space, pair_first, pair_second, pair_all}
+use mathlib.Core.List.{[], ◌∷◌}
+use Rattle.text.specs.promise.Text.{decimal_of, line_of}
+use Rattle.text.proofs.Appending.{appended_both}
+use Rattle.text.proofs.Fields.{field_both}
 use Rattle.text.proofs.pair.Goals as goal
-
-pub word-a-requires : goal.word-a-requires
-word-a-requires c = pair_word _ _ _ c.requires
-
-pub byte-b-requires : goal.byte-b-requires
-byte-b-requires c = (pair_space _ _ _ c.requires c.word-a.ensures)
-
-pub field-c-requires : goal.field-c-requires
-field-c-requires c =
-    pair_first _ c.args.n c.args.m c.requires c.word-a.ensures c.byte-b.ensures
-
-pub field-requires : goal.field-requires
-field-requires c =
-    pair_second _ c.args.n c.args.m c.requires c.word-a.ensures c.byte-b.ensures c.field-c.ensures
 
 pub returns : goal.returns
 returns c =
-    pair_all _ c.args.n c.args.m c.requires c.word-a.ensures c.byte-b.ensures c.field-c.ensures c.field.ensures
+    let n = decimal_of c.args.n in
+    let m = decimal_of c.args.m in
+    appended_both c.args.first.now (32 ∷ line_of (n ∷ m ∷ [])) c.word-a.ensures
+    (appended_both (32 ∷ []) (line_of (n ∷ m ∷ [])) c.byte-b.ensures (field_both n 32 _ c.field-c.ensures c.field.ensures))

@@ -1,21 +1,20 @@
 -- What the update promises: what it says, and what winners, moves and work space hold afterwards. (docs/RULES.md, Entry points)
-use Rattle.std.specs.Prelude.{ℕ, ◌<◌, ◌≡◌, List, [], ◌∷◌, ◌++◌}
+use Rattle.std.specs.Prelude.{ℕ, ◌<◌, ◌≡◌, List, [], ◌∷◌, ◌++◌, Result, Ok, Err}
 use Rattle.refusal.specs.promise.Row.{Row, Said, success, refused, None, First}
 use Rattle.refusal.specs.promise.Number.{said_of}
+use Rattle.refusal.specs.declared.Refusal.{Refusal}
 use Rattle.game.specs.promise.Tables.{vertices}
 use Rattle.storage.specs.promise.Lent.{Lent, Leaves}
 use Rattle.checker.specs.promise.Checking.{IsRight, judge_rows}
 use Rattle.solver.specs.promise.Solving.{Written}
-use Rattle.update.specs.declared.Updated.{Updated}
-use Rattle.update.specs.declared.Updated.TheVariants.{Done, Refused}
 use Rattle.amend.specs.promise.Amended.{CountOf}
 use Rattle.inputs.specs.promise.Inputs.{Input, test_rows}
 use Rattle.redo.specs.promise.Redone.{Redone, OldLine}
 
 -- in numbers: the count, or the refusal
-abbrev pub updated_said : Updated → Said
-updated_said (Done count) = success (count ∷ [])
-updated_said (Refused r) = said_of r
+abbrev pub updated_said : Result ℕ Refusal → Said
+updated_said (Ok count) = success (count ∷ [])
+updated_said (Err r) = said_of r
 
 -- and then 11 to 14 on the old answer
 abbrev pub update_rows : Input → Lent → List Row

@@ -1,9 +1,7 @@
 -- The verdict on a given answer, by tests that compute: what a small game's case is settled with.
-use Rattle.std.specs.Prelude.{ℕ, zero, suc, Bool, true, false, not, ◌&&◌, ◌||◌, List, [], ◌∷◌, eqb, leb, ltb}
+use Rattle.std.specs.Prelude.{ℕ, zero, suc, Bool, true, false, not, ◌&&◌, ◌||◌, List, [], ◌∷◌, eqb, leb, ltb, Option, Some, None}
 use Rattle.player.specs.promise.Player.{parity_of}
 use Rattle.refusal.specs.promise.Row.{Said, success, refused}
-use Rattle.refusal.specs.declared.Found.{Found}
-use Rattle.refusal.specs.declared.Found.TheVariants.{At, Nowhere}
 use Rattle.game.specs.promise.Game.{Game}
 use Rattle.winning.specs.promise.Answer.{no_move}
 
@@ -13,20 +11,20 @@ via s zero v u = s v u
 via s (suc k) v u = via s k v u || (via s k v k && via s k k u)
 
 -- what was found, or else n if it passes
-abbrev pub or_at : Found → ℕ → Bool → Found
-or_at (At x) n b = At x
-or_at Nowhere n true = At n
-or_at Nowhere n false = Nowhere
+abbrev pub or_at : Option ℕ → ℕ → Bool → Option ℕ
+or_at (Some x) n b = Some x
+or_at None n true = Some n
+or_at None n false = None
 
 -- the lowest number below n that passes the test
-abbrev pub lowest : (ℕ → Bool) → ℕ → Found
-lowest t zero = Nowhere
+abbrev pub lowest : (ℕ → Bool) → ℕ → Option ℕ
+lowest t zero = None
 lowest t (suc n) = let b = t n in or_at (lowest t n) n b
 
 -- whether something was found
-abbrev pub is_at : Found → Bool
-is_at (At x) = true
-is_at Nowhere = false
+abbrev pub is_at : Option ℕ → Bool
+is_at (Some x) = true
+is_at None = false
 
 -- a refusal's number, and the test of its places
 pub record Test : Type 0 where
@@ -34,9 +32,9 @@ pub record Test : Type 0 where
   pub passes : ℕ → Bool
 
 -- a refusal where a place was found, else what the later tests say
-abbrev pub or_said : ℕ → Found → Said → Said
-or_said k (At x) s = refused k x
-or_said k Nowhere s = s
+abbrev pub or_said : ℕ → Option ℕ → Said → Said
+or_said k (Some x) s = refused k x
+or_said k None s = s
 
 -- the first test that passes below n, at its lowest place
 abbrev pub said_by : ℕ → List Test → Said

@@ -1,5 +1,4 @@
 -- `writer::fill` meets its contract. Invariant `Blocks`: the blocks before this one stand in the output.
-use Prim.Native.Nat.{◌-◌}
 use Rattle.game.specs.promise.Tables.{tables_of}
 use Rattle.format.specs.promise.Format.{plain}
 use Rattle.writer.proofs.Blocks.{Blocks}
@@ -7,6 +6,3 @@ use Rattle.writer.proofs.fill.Given as goal
 
 abbrev pub invariant-loop-b : goal.invariant-loop-b
 invariant-loop-b l = Blocks (plain (tables_of l.owners l.priorities l.starts l.targets)) l.file l.b
-
-abbrev pub decreases-loop-b : goal.decreases-loop-b
-decreases-loop-b l = l.blocks - l.b

@@ -1,17 +1,16 @@
 -- What the writer promises: what it says and what the lent output holds afterwards. (docs/RULES.md, Entry points)
-use Rattle.std.specs.Prelude.{ℕ, ◌≡◌, List, [], ◌∷◌, length}
+use Rattle.std.specs.Prelude.{ℕ, ◌≡◌, List, [], ◌∷◌, length, Result, Ok, Err}
 use Rattle.refusal.specs.promise.Row.{Said, success, refused, None, First}
 use Rattle.refusal.specs.promise.Number.{said_of}
+use Rattle.refusal.specs.declared.Refusal.{Refusal}
 use Rattle.game.specs.promise.Tables.{Tables}
 use Rattle.format.specs.promise.Format.{file_of, plain}
-use Rattle.writer.specs.declared.Written.{Written}
-use Rattle.writer.specs.declared.Written.TheVariants.{File, Refused}
 use Rattle.writer.specs.promise.Faults.{write_rows}
 
 -- in numbers: the file's length, or the refusal
-abbrev pub written_said : Written → Said
-written_said (File bytes) = success (bytes ∷ [])
-written_said (Refused r) = said_of r
+abbrev pub written_said : Result ℕ Refusal → Said
+written_said (Ok bytes) = success (bytes ∷ [])
+written_said (Err r) = said_of r
 
 module _ (t : Tables) (before after : List ℕ) where
   -- success: no row applies, and the output is the file of the tables by rule 0

@@ -1,11 +1,12 @@
 -- `zoetelkorf::zoetelkorf_check` meets its contract. What `check` says, as a number and a value (Telling).
-use Rattle.checker.specs.promise.Checking.{verdict_said, Checks}
-use Rattle.zoetelkorf.proofs.Telling.{told}
+use Rattle.refusal.specs.promise.Number.{tested_said}
+use Rattle.checker.specs.promise.Checking.{Checks}
 use mathlib.Core.Path.{refl}
+use Rattle.zoetelkorf.proofs.Telling.{told}
 use Rattle.zoetelkorf.proofs.zoetelkorf_check.Goals as goal
 
-pub returns-in-Refused : goal.returns-in-Refused
-returns-in-Refused c = told _ verdict_said (Checks _ _ _ _) c.in-Refused.is c.check-verdict.ensures c.refused.ensures.number_is c.refused.ensures.value_is
+pub returns-in-Ok : goal.returns-in-Ok
+returns-in-Ok c = told _ tested_said (Checks _ _ _ _) c.in-Ok.is c.check.ensures refl refl
 
-pub returns : goal.returns
-returns c = told _ verdict_said (Checks _ _ _ _) c.in_default.is c.check-verdict.ensures refl refl
+pub returns-in-Err : goal.returns-in-Err
+returns-in-Err c = told _ tested_said (Checks _ _ _ _) c.in-Err.is c.check.ensures c.refused.ensures.number_is c.refused.ensures.value_is

@@ -1,5 +1,4 @@
 -- `amend::marking::seed_differing` meets its contract. The invariant, `Seeding`: of the vertices passed those that differ are seeds.
-use Prim.Native.Nat.{◌≤◌, ◌-◌}
 use Rattle.game.specs.promise.Tables.{game_of, tables_of}
 use Rattle.amend.specs.promise.Amended.{Differs}
 use Rattle.amend.specs.parts.Marking.{Seeding}
@@ -7,8 +6,4 @@ use Rattle.amend.proofs.marking.seed_differing.Given as goal
 
 abbrev pub invariant-loop-v : goal.invariant-loop-v
 invariant-loop-v l =
-    (l.v ≤ l.n) ×
     Seeding (Differs (game_of (tables_of l.owners l.priorities l.starts l.targets)) (game_of (tables_of l.owners2 l.priorities2 l.starts2 l.targets2))) l.n l.initial.work l.work l.tail l.v
-
-abbrev pub decreases-loop-v : goal.decreases-loop-v
-decreases-loop-v l = l.n - l.v

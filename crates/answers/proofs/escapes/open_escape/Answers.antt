@@ -3,16 +3,12 @@ use borrow.Author.Rules.{rules}
 use Rattle.answers.proofs.Stretches.{stretch_marks, says13}
 use Rattle.game.proofs.Starts.{stretch_of}
 use Rattle.storage.proofs.Stores.{has_room}
-use Rattle.refusal.proofs.Scans.{scan_none, scan_more, scan_found, scan_all}
-use mathlib.Core.Path.{refl}
+use Rattle.refusal.proofs.Scans.{scan_more, scan_found, scan_all}
 use native.Mathlib.Omega.{arith}
 use Rattle.answers.proofs.escapes.open_escape.Goals as goal
 
-pub loop-v-init : goal.loop-v-init
-loop-v-init c = (search rules, refl, scan_none)
-
-pub mark-bit-requires : goal.mark-bit-requires
-mark-bit-requires c = has_room c.requires.stored (search rules)
+pub mark-p-requires : goal.mark-p-requires
+mark-p-requires c = has_room c.requires.stored (search rules)
 
 pub successors-requires : goal.successors-requires
 successors-requires c = stretch_of _ _ _ c.requires.well_formed.placed _ (search rules)
@@ -22,13 +18,13 @@ is_escape-requires c = stretch_marks c.requires (search rules) c.successors.ensu
 
 pub returns-then-is_escape : goal.returns-then-is_escape
 returns-then-is_escape c =
-    let s = says13 c.requires (search rules) c.successors.ensures c.mark-bit.ensures c.is_escape.ensures in
-    scan_found c.loop-v.invariant.2 (s.holds c.if-is_escape.true)
+    let s = says13 c.requires (search rules) c.successors.ensures c.owner.ensures c.mark-p.ensures c.is_escape.ensures in
+    scan_found c.loop-v.invariant (s.holds c.if-is_escape.true)
 
 pub loop-v-preserved : goal.loop-v-preserved
 loop-v-preserved c =
-    let s = says13 c.requires (search rules) c.successors.ensures c.mark-bit.ensures c.is_escape.ensures in
-    (search rules, refl, scan_more c.loop-v.invariant.2 (s.fails c.if-is_escape.false))
+    let s = says13 c.requires (search rules) c.successors.ensures c.owner.ensures c.mark-p.ensures c.is_escape.ensures in
+    scan_more c.loop-v.invariant (s.fails c.if-is_escape.false)
 
 pub returns : goal.returns
-returns c = scan_all c.loop-v.invariant.2 (λ x f. omega (arith, f.edge.from))
+returns c = scan_all c.loop-v.invariant (λ x f. omega (arith, f.edge.from))

@@ -3,13 +3,7 @@ use Rattle.winning.specs.promise.Faults.{Fault12}
 use Rattle.game.specs.promise.Tables.{game_of, tables_of}
 use Rattle.storage.specs.promise.Answer.{mark_of, move_of}
 use Rattle.refusal.specs.parts.Found.{Scanned}
-use lib.ListN.{length}
-use mathlib.Core.Path.{◌≡◌}
-use Prim.Native.Nat.{◌≤◌, ◌-◌}
 use Rattle.answers.proofs.moves.wrong_move.Given as goal
 
 abbrev pub invariant-loop-v : goal.invariant-loop-v
-invariant-loop-v l = (l.v ≤ length l.owners) × (l.n ≡ length l.owners) × Scanned (Fault12 (game_of (tables_of l.owners l.priorities l.starts l.targets)) (mark_of l.winners) (move_of l.moves)) l.v
-
-abbrev pub decreases-loop-v : goal.decreases-loop-v
-decreases-loop-v l = length l.owners - l.v
+invariant-loop-v l = Scanned (Fault12 (game_of (tables_of l.owners l.priorities l.starts l.targets)) (mark_of l.winners) (move_of l.moves)) l.v

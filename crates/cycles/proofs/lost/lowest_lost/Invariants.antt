@@ -5,13 +5,10 @@ use Rattle.storage.specs.promise.Answer.{mark_of, move_of}
 use Rattle.game.specs.promise.Tables.{game_of, tables_of}
 use Rattle.refusal.specs.parts.Found.{Scanned}
 use lib.ListN.{length}
-use mathlib.Core.Path.{◌≡◌}
-use Prim.Native.Nat.{◌≤◌, ◌-◌}
 use Rattle.cycles.proofs.lost.lowest_lost.Given as goal
 
 abbrev pub invariant-loop-x : goal.invariant-loop-x
-invariant-loop-x l =
-    (l.x ≤ length l.owners) × (l.n ≡ length l.owners) × (length l.work ≡ length l.initial.work) × Ready (length l.owners) l.priorities l.work × Scanned (Fault14 (game_of (tables_of l.owners l.priorities l.starts l.targets)) (mark_of l.winners) (move_of l.moves)) l.x
-
-abbrev pub decreases-loop-x : goal.decreases-loop-x
-decreases-loop-x l = length l.owners - l.x
+invariant-loop-x l = record {
+  ready : Ready (length l.owners) l.priorities l.work;
+  scanned : Scanned (Fault14 (game_of (tables_of l.owners l.priorities l.starts l.targets)) (mark_of l.winners) (move_of l.moves)) l.x;
+}

@@ -1,21 +1,13 @@
--- `decoding::turn::highest` meets its contract. The highest of the priorities. Invariant `Topping`: the highest of those passed and those to come is the highest of all.
-use Rattle.decoding.proofs.Topping.{Topping, topping_none, topping_higher, topping_lower, topping_all}
-use mathlib.Core.Path.{refl, sym, subst}
-use Prim.Native.Nat.{ℕ, ◌+◌}
+-- `decoding::turn::highest` meets its contract.
+use Prim.Native.Nat.{max}
+use mathlib.Core.Path.{◌≡◌}
+use native.Mathlib.Omega.{arith}
+use Rattle.std.specs.List.{fold}
+use Rattle.std.proofs.lemmas.Grind.{common_steps}
+use Rattle.decoding.proofs.Topping.{fold_highest}
 use Rattle.decoding.proofs.turn.highest.Goals as goal
-use Rattle.decoding.proofs.turn.highest.Goals.{then-priorities-v, else-priorities-v}
-
-pub loop-v-init : goal.loop-v-init
-loop-v-init c = topping_none
-
-pub loop-v-preserved : goal.loop-v-preserved
-loop-v-preserved c =
-    let f = c.args.priorities.now in
-    let m = c.loop-v-test.true in
-    elim c.if-priorities-v.branch [
-      | then-priorities-v w ↦ subst (λ (t : ℕ). Topping f t (c.loop-v.v + 1)) (sym w.top-is) (topping_higher _ _ _ _ m refl w.if-priorities-v.true c.loop-v.invariant)
-      | else-priorities-v w ↦ subst (λ (t : ℕ). Topping f t (c.loop-v.v + 1)) (sym w.top-is) (topping_lower _ _ _ _ m refl w.if-priorities-v.false c.loop-v.invariant)
-    ]
 
 pub returns : goal.returns
-returns c = topping_all _ _ _ c.loop-v-test.false c.loop-v.invariant
+returns c =
+    let passed : c.fold.result ≡ fold (λ t p. max t p) 0 c.args.priorities.now = grind (arith, common_steps) in
+    omega (arith, passed, fold_highest 0 c.args.priorities.now)

@@ -1,46 +1,28 @@
--- `decoding::turn::turn` meets its contract. The priorities by the rule. Invariant `Between`: those passed are turned, the others as filed.
-use Rattle.decoding.proofs.Between.{between_none, between_end}
-use Rattle.decoding.proofs.Padding.{padded_take}
-use Rattle.decoding.proofs.Turned.{padded_plain, unturned_low, turned_more}
-use Rattle.format.proofs.Lists.{priorities_long}
-use Rattle.format.proofs.Turning.{turned_long}
-use Rattle.format.specs.promise.Filed.{rule_filed, priorities_filed}
-use Rattle.format.specs.promise.Format.{highest_of}
-use lib.Seq.{length-take-le}
+-- `decoding::turn::turn` meets its contract: those passed are turned, the others as filed.
+use Prim.Native.Nat.{◌≤◌}
+use mathlib.Core.Path.{◌≡◌, sym, ◌∙◌}
 use native.Mathlib.Omega.{arith}
-use mathlib.Core.Path.{◌≡◌, sym, ap, ◌∙◌}
+use native.Mathlib.Nat.{le_refl}
+use lib.ListN.{length, take}
+use lib.Seq.{length-take-le}
+use Rattle.format.specs.promise.Filed.{rule_filed, priorities_filed}
+use Rattle.format.proofs.Lists.{priorities_long}
+use Rattle.format.proofs.Turning.{highest_above}
+use Rattle.decoding.proofs.Turned.{top_highest, padded_turned}
 use Rattle.decoding.proofs.turn.turn.Goals as goal
 
-pub rule-requires : goal.rule-requires
-rule-requires c = omega (arith, c.requires.0.long)
-
-pub returns-then-rule-eq0 : goal.returns-then-rule-eq0
-returns-then-rule-eq0 c = padded_plain (rule_filed c.args.file.now) (sym c.rule.ensures ∙ c.if-rule-eq0.true) c.requires.1
-
-pub vertices-n-requires : goal.vertices-n-requires
-vertices-n-requires c = omega (arith, c.requires.0.long)
-
-pub slice_bounds-highest-end-2 : goal.slice_bounds-highest-end-2
-slice_bounds-highest-end-2 c = sym (length-take-le _ _ (omega (arith, c.requires.1.long, c.requires.0.few, c.vertices-n.ensures.is)))
-
-pub loop-v-init : goal.loop-v-init
-loop-v-init c =
-    let l = priorities_filed c.args.file.now in
-    let n = c.vertices-n.ensures.is in
-    let e = padded_take _ (n ∙ sym (priorities_long c.args.file.now)) (omega (arith, n, c.requires.0.few)) c.requires.1 in
-    (n, c.highest-top.ensures ∙ ap highest_of e, between_none c.requires.1)
-
-pub overflow_sub-table : goal.overflow_sub-table
-overflow_sub-table c = unturned_low (rule_filed c.args.file.now) c.loop-v.invariant.1 c.loop-v.invariant.2
-
-pub loop-v-preserved : goal.loop-v-preserved
-loop-v-preserved c =
-    let i = c.loop-v.invariant in
-    let f = c.args.file.now in
-    (i.0, i.1, turned_more (rule_filed f) i.1 i.2 ((let lowest_here : ¬ (rule_filed c.args.file.now ≡ 0) = λ z. c.if-rule-eq0.false (c.rule.ensures ∙ z) in lowest_here)) (omega (arith, priorities_long f, i.0)) (omega (arith, i.0, c.requires.0.few)))
+pub overflow_sub-p : goal.overflow_sub-p
+overflow_sub-p c =
+    let list = priorities_filed c.args.file.now in
+    let long : c.vertices-n.result ≡ length list = c.vertices-n.ensures.is ∙ sym (priorities_long c.args.file.now) in
+    let few : c.vertices-n.result ≤ 2048 = omega (arith, c.requires.0.few) in
+    let first : length (take c.vertices-n.result c.args.table.now) ≡ c.vertices-n.result = length-take-le _ _ (omega (arith, c.requires.1.long)) in
+    let i = c.loop-p.p-index in
+    omega (arith, c.loop-p.invariant.1 i (le_refl i) (omega arith), c.requires.1.same i, highest_above list i, top_highest long few c.requires.1 c.highest-top.ensures)
 
 pub returns : goal.returns
 returns c =
-    let f = c.args.file.now in
-    let e = priorities_long f in
-    between_end (omega (arith, c.loop-v.invariant.0)) (omega (arith, turned_long (rule_filed f) (priorities_filed f), c.loop-v.invariant.0)) c.loop-v.invariant.2
+    let long : c.vertices-n.result ≡ length (priorities_filed c.args.file.now) = c.vertices-n.ensures.is ∙ sym (priorities_long c.args.file.now) in
+    let few : c.vertices-n.result ≤ 2048 = omega (arith, c.requires.0.few) in
+    let first : length (take c.vertices-n.result c.args.table.now) ≡ c.vertices-n.result = length-take-le _ _ (omega (arith, c.requires.1.long)) in
+    padded_turned (rule_filed c.args.file.now) _ (λ z. c.if-rule-eq0.false (c.rule.ensures ∙ z)) long few (top_highest long few c.requires.1 c.highest-top.ensures) c.requires.1 (omega arith) (λ k l. c.loop-p.invariant.0 k (omega arith))

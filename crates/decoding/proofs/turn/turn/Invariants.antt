@@ -1,13 +1,8 @@
--- `decoding::turn::turn` meets its contract. The priorities by the rule. Invariant `Between`: those passed are turned, the others as filed.
-use Rattle.decoding.proofs.Between.{Between}
-use Rattle.format.specs.promise.Filed.{vertices_filed, rule_filed, priorities_filed}
-use Rattle.format.specs.promise.Format.{highest_of, turned_of}
-use Prim.Native.Nat.{◌-◌}
+-- `decoding::turn::turn` meets its contract: those passed are turned, the others as filed.
+use Prim.Native.Nat.{ℕ, ◌-◌, ◌<◌, ◌≤◌}
 use mathlib.Core.Path.{◌≡◌}
+use lib.ListN.{get_or}
 use Rattle.decoding.proofs.turn.turn.Given as goal
 
-abbrev pub invariant-loop-v : goal.invariant-loop-v
-invariant-loop-v l = (l.n ≡ vertices_filed l.file) × (l.top ≡ highest_of (priorities_filed l.file)) × Between 2048 (priorities_filed l.file) (turned_of (rule_filed l.file) (priorities_filed l.file)) l.table l.v
-
-abbrev pub decreases-loop-v : goal.decreases-loop-v
-decreases-loop-v l = l.n - l.v
+abbrev pub invariant-loop-p : goal.invariant-loop-p
+invariant-loop-p l = ((k : ℕ) → k < l.p-index → get_or l.p-items k 0 ≡ l.top - get_or l.fn.table k 0) × ((k : ℕ) → l.p-index ≤ k → k < l.n → get_or l.p-items k 0 ≡ get_or l.fn.table k 0)

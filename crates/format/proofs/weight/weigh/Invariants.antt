@@ -1,10 +1,9 @@
--- `format::weight::weigh` meets its contract. The weighted sum of a block. Invariant `Weight`: the sum of the terms passed, each at most 512 × 255.
-use Prim.Native.Nat.{◌-◌}
-use Rattle.format.proofs.Weights.{Weight}
+-- `format::weight::weigh` meets its contract. The sum of the terms passed, each at most 512 × 255.
+use Prim.Native.Nat.{◌+◌, ◌*◌, ◌≤◌}
+use mathlib.Core.Path.{◌≡◌}
+use Rattle.lists.specs.promise.Sequence.{sum_to}
+use Rattle.format.specs.promise.Filed.{byte_at}
 use Rattle.format.proofs.weight.weigh.Given as goal
 
 abbrev pub invariant-loop-i : goal.invariant-loop-i
-invariant-loop-i l = Weight l.file l.from l.sum l.i
-
-abbrev pub decreases-loop-i : goal.decreases-loop-i
-decreases-loop-i l = 512 - l.i
+invariant-loop-i l = (l.sum ≤ 130560 * l.i) × (l.sum ≡ sum_to l.i (λ k. (k + 1) * byte_at l.file (l.from + k)))

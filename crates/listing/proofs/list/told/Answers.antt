@@ -8,28 +8,28 @@ use Rattle.listing.proofs.list.told.Goals as goal
 pub refused_line-requires : goal.refused_line-requires
 refused_line-requires c = refused_room _ _ _ c.requires.1
 
-pub overflow_add-past : goal.overflow_add-past
-overflow_add-past c = omega (arith, (game_tabled _ _ _ c.in-Game.is c.requires.0).starts_long)
+pub overflow_add-n : goal.overflow_add-n
+overflow_add-n c = omega (arith, (game_tabled _ _ _ c.in-Ok.is c.requires.0).starts_long)
 
 pub slice_bounds-listed-end : goal.slice_bounds-listed-end
-slice_bounds-listed-end c = sym (length-take-le _ _ (game_tabled _ _ _ c.in-Game.is c.requires.0).owners_long)
+slice_bounds-listed-end c = sym (length-take-le _ _ (game_tabled _ _ _ c.in-Ok.is c.requires.0).owners_long)
 
-pub slice_bounds-listed-end-in-Game : goal.slice_bounds-listed-end-in-Game
-slice_bounds-listed-end-in-Game c = sym (length-take-le _ _ (game_tabled _ _ _ c.in-Game.is c.requires.0).priorities_long)
+pub slice_bounds-listed-end-in-Ok : goal.slice_bounds-listed-end-in-Ok
+slice_bounds-listed-end-in-Ok c = sym (length-take-le _ _ (game_tabled _ _ _ c.in-Ok.is c.requires.0).priorities_long)
 
-pub slice_bounds-listed-end-in-Game-2 : goal.slice_bounds-listed-end-in-Game-2
-slice_bounds-listed-end-in-Game-2 c = sym (length-take-le _ _ (game_tabled _ _ _ c.in-Game.is c.requires.0).starts_long)
+pub slice_bounds-listed-end-in-Ok-2 : goal.slice_bounds-listed-end-in-Ok-2
+slice_bounds-listed-end-in-Ok-2 c = sym (length-take-le _ _ (game_tabled _ _ _ c.in-Ok.is c.requires.0).starts_long)
 
-pub slice_bounds-listed-end-in-Game-3 : goal.slice_bounds-listed-end-in-Game-3
-slice_bounds-listed-end-in-Game-3 c = sym (length-take-le _ _ (game_tabled _ _ _ c.in-Game.is c.requires.0).targets_long)
+pub slice_bounds-listed-end-in-Ok-3 : goal.slice_bounds-listed-end-in-Ok-3
+slice_bounds-listed-end-in-Ok-3 c = sym (length-take-le _ _ (game_tabled _ _ _ c.in-Ok.is c.requires.0).targets_long)
 
 pub listed-requires : goal.listed-requires
-listed-requires c = ((game_tabled _ _ _ c.in-Game.is c.requires.0).well_formed, c.requires.1)
+listed-requires c = ((game_tabled _ _ _ c.in-Ok.is c.requires.0).well_formed, c.requires.1)
 
-pub returns-in-Refused : goal.returns-in-Refused
-returns-in-Refused c =
-    told_refused _ _ _ c.in-Refused.is c.refused_line.ensures
+pub returns-in-Err : goal.returns-in-Err
+returns-in-Err c =
+    told_refused _ _ _ c.in-Err.is c.refused_line.ensures
 
-pub returns-in-Game : goal.returns-in-Game
-returns-in-Game c =
-    told_game _ _ _ c.in-Game.is c.listed.ensures
+pub returns-in-Ok : goal.returns-in-Ok
+returns-in-Ok c =
+    told_game _ _ _ c.in-Ok.is c.listed.ensures

@@ -1,17 +1,8 @@
 -- `loading::load::load` meets its contract. The tables are decoded, tested and turned.
+use borrow.Author.Rules.{rules}
+use Rattle.format.specs.promise.Faults.{filed_rows}
+use Rattle.loading.proofs.FrameRows.{loads_refused}
 use Rattle.loading.proofs.load.load.Goals as goal
 
-pub decode-requires : goal.decode-requires
-decode-requires c = c.requires
-
-pub values-tested-requires : goal.values-tested-requires
-values-tested-requires c =
-    (c.requires.0, c.decode.ensures)
-
-pub turn-requires : goal.turn-requires
-turn-requires c = (c.requires.0.sized, c.decode.ensures.priorities)
-
-pub returns : goal.returns
-returns c =
-    let e = c.decode.ensures in
-    record { said = c.values-tested.ensures; holds = λ none. record { owners = e.owners; priorities = c.turn.ensures; starts = e.starts; targets = e.targets } }
+pub returns-in_err-values : goal.returns-in_err-values
+returns-in_err-values c = loads_refused (filed_rows _) _ _ c.values.ensures c.in_err-values.was (search rules)

@@ -2,7 +2,7 @@
 use Rattle.decoding.proofs.Padding.{holding_take}
 use Rattle.loading.proofs.TableRows.{filed_said}
 use Rattle.refusal.specs.promise.Row.{Gives}
-use Rattle.refusal.specs.parts.Found.{tested_said}
+use Rattle.refusal.specs.promise.Number.{tested_said}
 use Rattle.game.specs.promise.Tables.{Tables}
 use Rattle.game.specs.promise.Faults.{table_rows}
 use lib.Seq.{length-take-le}
@@ -25,4 +25,4 @@ slice_bounds-test_tables-end-4 c = sym (length-take-le _ _ (omega (arith, c.requ
 pub returns : goal.returns
 returns c =
     let same = holding_take c.requires.0.sized c.vertices-n.ensures.is c.edges-m.ensures.is c.requires.1 in
-    (filed_said _ c.requires.0 {t = c.test_tables.result} (record { gives = subst (λ (t : Tables). Gives (table_rows t) (tested_said c.test_tables.result)) same c.test_tables.ensures })).gives
+    filed_said _ c.requires.0 c.test_tables.result (subst (λ (t : Tables). Gives (table_rows t) (tested_said c.test_tables.result)) same c.test_tables.ensures)

@@ -1,13 +1,8 @@
 -- `orders::lowest::lowest` meets its contract. The invariant, `Lowering`: the engine has moved, and nothing below the cursor is open.
-use mathlib.Core.Path.{◌≡◌}
-use lib.ListN.{length}
 use Rattle.game.specs.promise.Tables.{tables_of}
 use Rattle.space.specs.parts.Desk.{desk_of}
 use Rattle.orders.proofs.Running.{Lowering}
 use Rattle.orders.proofs.lowest.lowest.Given as goal
 
-abbrev pub invariant-loop-left : goal.invariant-loop-left
-invariant-loop-left l = (length l.desk ≡ length l.initial.desk) × Lowering l.low l.budget l.left (tables_of l.owners l.priorities l.starts l.targets) l.ins l.froms l.initial.winners l.initial.moves l.initial.work (desk_of l.desk) l.winners l.moves l.work
-
-abbrev pub decreases-loop-left : goal.decreases-loop-left
-decreases-loop-left l = l.left
+abbrev pub invariant-loop : goal.invariant-loop
+invariant-loop l = Lowering l.low l.counter (tables_of l.owners l.priorities l.starts l.targets) l.ins l.froms l.initial.winners l.initial.moves l.initial.work (desk_of l.desk) l.winners l.moves l.work

@@ -2,7 +2,7 @@
 -- vertices of the queue start at reached vertices. The measure is n - h, since the queue never has more than n vertices.
 use mathlib.Core.Path.{◌∙◌}
 use native.Mathlib.Omega.{arith}
-use Rattle.reach.proofs.Closing.{closing_in_none, closing_place, closing_in_visit, closing_in_more, closing_in_all}
+use Rattle.reach.proofs.Closing.{closing_in_none, closing_place, closing_in_more, closing_in_all}
 use Rattle.reach.proofs.closure.close.Goals as goal
 
 pub loop-h-init : goal.loop-h-init
@@ -10,12 +10,6 @@ loop-h-init c = closing_in_none c.requires
 
 pub queued-requires : goal.queued-requires
 queued-requires c = closing_place c.requires c.loop-h.invariant c.loop-h-test.true
-
-pub visit-end-requires : goal.visit-end-requires
-visit-end-requires c = closing_in_visit c.requires c.loop-h.invariant c.loop-h-test.true (c.wide-w.ensures ∙ c.queued.ensures)
-
-pub overflow_add-h : goal.overflow_add-h
-overflow_add-h c = omega (arith, (closing_place c.requires c.loop-h.invariant c.loop-h-test.true).within, c.requires.closable.small)
 
 pub loop-h-smaller : goal.loop-h-smaller
 loop-h-smaller c = omega (arith, (closing_place c.requires c.loop-h.invariant c.loop-h-test.true).within)

@@ -1,11 +1,8 @@
 -- `reach::closure::seed` meets its contract: a vertex that is not reached leaves room in the queue, by counting.
 use mathlib.Core.Path.{refl}
 use native.Mathlib.Omega.{arith}
-use Rattle.reach.proofs.Queues.{room, seed_cell, tail_cell, pushed_in}
+use Rattle.reach.proofs.Queues.{room, tail_cell, pushed_in}
 use Rattle.reach.proofs.closure.seed.Goals as goal
-
-pub set_reached-requires : goal.set_reached-requires
-set_reached-requires c = seed_cell c.requires
 
 pub set_queued-requires : goal.set_queued-requires
 set_queued-requires c = tail_cell c.requires c.set_reached.ensures

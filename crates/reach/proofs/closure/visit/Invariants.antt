@@ -1,13 +1,7 @@
 -- `reach::closure::visit` meets its contract. The invariant, `VisitingIn`: what is reached and the queue have grown by starts of allowed steps to w, and the
 -- predecessors at the places below i are passed.
-use Prim.Native.Nat.{◌+◌, ◌-◌}
-use mathlib.Core.Path.{◌≡◌}
-use lib.ListN.{get_or}
 use Rattle.reach.proofs.Visits.{VisitingIn}
 use Rattle.reach.proofs.closure.visit.Given as goal
 
 abbrev pub invariant-loop-i : goal.invariant-loop-i
-invariant-loop-i l = (l.last ≡ get_or l.ins (l.w + 1) 0) × VisitingIn l.n l.w l.ins l.froms l.choice l.bound l.initial.work l.tail l.work l.i l.end
-
-abbrev pub decreases-loop-i : goal.decreases-loop-i
-decreases-loop-i l = l.last - l.i
+invariant-loop-i l = VisitingIn l.n l.w l.ins l.froms l.choice l.bound l.initial.work l.tail l.work l.i l.end

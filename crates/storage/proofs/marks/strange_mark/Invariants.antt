@@ -1,11 +1,7 @@
 -- `storage::marks::strange_mark` meets its contract. Row 11 is a scan; the invariant: no mark passed is strange.
 use Rattle.storage.specs.promise.Faults.{Fault11}
 use Rattle.refusal.specs.parts.Found.{Scanned}
-use Prim.Native.Nat.{◌≤◌, ◌-◌}
 use Rattle.storage.proofs.marks.strange_mark.Given as goal
 
 abbrev pub invariant-loop-v : goal.invariant-loop-v
-invariant-loop-v l = (l.v ≤ l.n) × Scanned (Fault11 l.n l.winners) l.v
-
-abbrev pub decreases-loop-v : goal.decreases-loop-v
-decreases-loop-v l = l.n - l.v
+invariant-loop-v l = Scanned (Fault11 l.n l.winners) l.v
