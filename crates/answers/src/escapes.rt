@@ -11,7 +11,8 @@ ghost use Rattle.winning.specs.promise.Faults.{Fault13};
 ghost use Rattle.answers.specs.parts.Answered.{Answered};
 ghost use Rattle.answers.specs.parts.Tests.{Escape};
 
-use game::vertex::{owner, successors, wide};
+use game::tables::Tables;
+use game::vertex::wide;
 use player::Player;
 use storage::Winner;
 use storage::answer::mark;
@@ -33,20 +34,13 @@ fn is_escape(owner: Player, stretch: &[u16], winners: &[Winner], p: u8) -> bool
 }
 
 // 13: a vertex owned by the loser with a successor of the other mark.
-pub fn open_escape(
-    owners: &[u8],
-    priorities: &[u8],
-    starts: &[u16],
-    targets: &[u16],
-    winners: &[Winner],
-    moves: &[u16],
-) -> Option<usize>
-    requires { Answered (asked owners priorities starts targets) (claim winners moves) }
-    ensures { Finds (Fault13 (game_of (lent owners priorities starts targets)) (mark_of winners.now) (move_of moves.now)) result }
+pub fn open_escape(tables: Tables, winners: &[Winner], moves: &[u16]) -> Option<usize>
+    requires { Answered (asked tables) (claim winners moves) }
+    ensures { Finds (Fault13 (game_of (lent tables)) (mark_of winners.now) (move_of moves.now)) result }
 {
-    for v in 0..owners.len() {
+    for v in 0..tables.vertices() {
         let p = mark(winners, v);
-        if is_escape(owner(owners, v), successors(starts, targets, v), winners, p) {
+        if is_escape(tables.owner(v), tables.successors(v), winners, p) {
             return Some(v);
         }
     }

@@ -13,7 +13,8 @@ ghost use Rattle.answers.specs.parts.Answered.{Answered};
 ghost use Rattle.answers.specs.parts.Tests.{OwnMove, WrongMove};
 
 use game::NONE;
-use game::vertex::{owner, successors, wide};
+use game::tables::Tables;
+use game::vertex::wide;
 use player::Player;
 use storage::Winner;
 use storage::answer::{mark, recorded};
@@ -46,27 +47,14 @@ fn is_wrong_move(owner: Player, stretch: &[u16], winners: &[Winner], p: u8, m: u
 }
 
 // 12: a wrong move: where the winner owns, no successor with the same mark; elsewhere any but 65,535.
-pub fn wrong_move(
-    owners: &[u8],
-    priorities: &[u8],
-    starts: &[u16],
-    targets: &[u16],
-    winners: &[Winner],
-    moves: &[u16],
-) -> Option<usize>
-    requires { Answered (asked owners priorities starts targets) (claim winners moves) }
-    ensures { Finds (Fault12 (game_of (lent owners priorities starts targets)) (mark_of winners.now) (move_of moves.now)) result }
+pub fn wrong_move(tables: Tables, winners: &[Winner], moves: &[u16]) -> Option<usize>
+    requires { Answered (asked tables) (claim winners moves) }
+    ensures { Finds (Fault12 (game_of (lent tables)) (mark_of winners.now) (move_of moves.now)) result }
 {
-    for v in 0..owners.len() {
+    for v in 0..tables.vertices() {
         let p = mark(winners, v);
         let m = recorded(moves, v);
-        if is_wrong_move(
-            owner(owners, v),
-            successors(starts, targets, v),
-            winners,
-            p,
-            m,
-        ) {
+        if is_wrong_move(tables.owner(v), tables.successors(v), winners, p, m) {
             return Some(v);
         }
     }

@@ -6,7 +6,7 @@ use mathlib.Core.List.{List}
 use native.Mathlib.Omega.{arith}
 use lib.ListN.{get_or}
 use Rattle.game.specs.promise.Tables.{Tables, vertices}
-use Rattle.space.specs.parts.Desk.{Desk}
+use Rattle.space.specs.declared.desk.Desk.{Desk}
 use Rattle.draw.specs.parts.Drawing.{DrawVisitable, Drawn}
 
 -- the engine has moved, and no more is left of the budget than there was

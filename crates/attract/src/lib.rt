@@ -3,17 +3,18 @@
 
 ghost use Rattle.std.specs.Prelude.{◌≤◌};
 ghost use Rattle.game.specs.promise.Lent.{asked, lent};
-ghost use Rattle.space.specs.parts.Desk.{desk_of};
 ghost use Rattle.draw.specs.parts.Drawing.{Drainable, Drawn};
 
 use draw::visit;
+use game::tables::Tables;
 use game::vertex::wide;
 use pile::Pile;
-use space::desk::piled;
+use preds::Predecessors;
+use space::desk::Desk;
 use storage::Winner;
 
 // What is left of the budget, and a priority from which on nothing has been settled.
-#[derive(Drop)]
+#[derive(Clone, Copy, Debug, PartialEq, Eq)]
 pub struct Left {
     pub budget: usize,
     pub top: usize,
@@ -24,27 +25,24 @@ pub fn drain(
     tail: usize,
     low: u16,
     budget: usize,
-    owners: &[u8],
-    priorities: &[u8],
-    starts: &[u16],
-    targets: &[u16],
-    ins: &[u16],
-    froms: &[u16],
-    desk: &mut [u16],
+    tables: Tables,
+    preds: &Predecessors,
+    desk: &mut Desk,
     winners: &mut [Winner],
     moves: &mut [u16],
     work: &mut [u16],
 ) -> Left
-    requires { Drainable tail (asked owners priorities starts targets) ins.now froms.now (desk_of desk.old) winners.old moves.old work.old }
+    requires { Drainable tail (asked tables) preds.now.ins preds.now.froms desk.old winners.old moves.old work.old }
     ensures left { result.budget ≤ budget }
-    ensures moved { Drawn 0 (lent owners priorities starts targets) ins.now froms.now winners.old moves.old work.old (desk_of desk.new) winners.new moves.new work.new }
+    ensures moved { Drawn 0 (lent tables) preds.now.ins preds.now.froms winners.old moves.old work.old desk.new winners.new moves.new work.new }
 {
     let mut pile = Pile { tail, top: 0 };
-    for spent in 0..budget {
+    // `left` is what this visit leaves.
+    for left in (0..budget).rev() {
         let end = pile.tail;
         if end == 0 {
             return Left {
-                budget: budget - spent,
+                budget: left + 1,
                 top: pile.top,
             };
         }
@@ -54,15 +52,11 @@ pub fn drain(
             top: pile.top,
         };
         pile = visit(
-            wide(piled(last, desk)),
+            wide(desk.piled(last)),
             low,
             rest,
-            owners,
-            priorities,
-            starts,
-            targets,
-            ins,
-            froms,
+            tables,
+            preds,
             desk,
             winners,
             moves,

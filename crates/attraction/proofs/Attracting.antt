@@ -3,7 +3,7 @@ use Prim.Native.Nat.{ℕ}
 use mathlib.Core.Path.{◌≡◌}
 use mathlib.Core.List.{List}
 use Rattle.game.specs.promise.Tables.{Tables, vertices}
-use Rattle.space.specs.parts.Desk.{Desk}
+use Rattle.space.specs.declared.desk.Desk.{Desk}
 use Rattle.std.specs.Prelude.{Option, Some, None}
 use Rattle.pick.specs.parts.Order.{Picks}
 use Rattle.step.proofs.Moving.{moved_more}

@@ -4,15 +4,15 @@
 ghost use Rattle.refusal.specs.promise.Number.{tested_said};
 ghost use Rattle.game.specs.promise.Lent.{asked, lent};
 ghost use Rattle.storage.specs.promise.Lent.{claim, claimed};
+ghost use Rattle.preds.specs.parts.Build.{Blank};
 ghost use Rattle.checker.specs.promise.Checking.{Checks};
 ghost use Rattle.checker.specs.parts.Judging.{Judgeable, JudgeableIn, Judged};
 
 use answers::escapes::open_escape;
 use answers::moves::wrong_move;
 use cycles::lost::lost_cycle;
-use game::EDGES;
-use preds::INS;
-use preds::build::predecessors;
+use game::tables::Tables;
+use preds::Predecessors;
 use refusal::{AnswerFault, Kind, Refusal, refuse};
 use space::fill::fill;
 use storage::Winner;
@@ -21,85 +21,60 @@ use tables::lent::test_lent;
 
 // 11 to 14, each over all vertices before the next, on an answer to a game that has passed 1 to 8, with the game's predecessor lists.
 pub fn judge(
-    owners: &[u8],
-    priorities: &[u8],
-    starts: &[u16],
-    targets: &[u16],
+    tables: Tables,
     winners: &[Winner],
     moves: &[u16],
-    ins: &[u16],
-    froms: &[u16],
+    preds: &Predecessors,
     work: &mut [u16],
 ) -> Result<(), Refusal>
-    requires { Judgeable (asked owners priorities starts targets) (claim winners moves) ins.now froms.now work.old }
-    ensures { Judged (lent owners priorities starts targets) (claimed winners moves) work.old work.new (tested_said result) }
+    requires { Judgeable (asked tables) (claim winners moves) preds.now.ins preds.now.froms work.old }
+    ensures { Judged (lent tables) (claimed winners moves) work.old work.new (tested_said result) }
 {
     fill(work, 0);
     refuse(
-        strange_mark(owners.len(), winners),
+        strange_mark(tables.owners.len(), winners),
         Kind::Claim(AnswerFault::Mark),
     )?;
     refuse(
-        wrong_move(owners, priorities, starts, targets, winners, moves),
+        wrong_move(tables, winners, moves),
         Kind::Claim(AnswerFault::Move),
     )?;
     refuse(
-        open_escape(owners, priorities, starts, targets, winners, moves),
+        open_escape(tables, winners, moves),
         Kind::Claim(AnswerFault::Escape),
     )?;
     refuse(
-        lost_cycle(
-            owners, priorities, starts, targets, winners, moves, ins, froms, work,
-        ),
+        lost_cycle(tables, winners, moves, preds, work),
         Kind::Claim(AnswerFault::Cycle),
     )
 }
 
 // The same, where the game's predecessor lists are made in lent lists, whatever these hold.
 pub fn judge_in(
-    owners: &[u8],
-    priorities: &[u8],
-    starts: &[u16],
-    targets: &[u16],
+    tables: Tables,
     winners: &[Winner],
     moves: &[u16],
-    ins: &mut [u16],
-    froms: &mut [u16],
+    preds: &mut Predecessors,
     work: &mut [u16],
 ) -> Result<(), Refusal>
-    requires { JudgeableIn (asked owners priorities starts targets) (claim winners moves) ins.old froms.old work.old }
-    ensures { Judged (lent owners priorities starts targets) (claimed winners moves) work.old work.new (tested_said result) }
+    requires { JudgeableIn (asked tables) (claim winners moves) preds.old.ins preds.old.froms work.old }
+    ensures room { Blank preds.new.ins preds.new.froms }
+    ensures judged { Judged (lent tables) (claimed winners moves) work.old work.new (tested_said result) }
 {
-    predecessors(owners, priorities, starts, targets, ins, froms);
-    judge(
-        owners, priorities, starts, targets, winners, moves, ins, froms, work,
-    )
+    preds.list(tables);
+    judge(tables, winners, moves, preds, work)
 }
 
 // Whether the answer is right for the game: the first of 1 to 8 and 11 to 14 that applies, or acceptance.
 pub fn check(
-    owners: &[u8],
-    priorities: &[u8],
-    starts: &[u16],
-    targets: &[u16],
+    tables: Tables,
     winners: &[Winner],
     moves: &[u16],
     work: &mut [u16],
 ) -> Result<(), Refusal>
-    ensures { Checks (lent owners priorities starts targets) (claimed winners moves) work.old work.new (tested_said result) }
+    ensures { Checks (lent tables) (claimed winners moves) work.old work.new (tested_said result) }
 {
-    test_lent(
-        owners,
-        priorities,
-        starts,
-        targets,
-        winners.len(),
-        moves.len(),
-        work.len(),
-    )?;
-    let mut ins = [0u16; INS];
-    let mut froms = [0u16; EDGES];
-    judge_in(
-        owners, priorities, starts, targets, winners, moves, &mut ins, &mut froms, work,
-    )
+    test_lent(tables, winners.len(), moves.len(), work.len())?;
+    let mut preds = Predecessors::blank();
+    judge_in(tables, winners, moves, &mut preds, work)
 }

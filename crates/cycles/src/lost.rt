@@ -10,8 +10,9 @@ ghost use Rattle.cycles.specs.parts.Rounds.{Rounding, Rounds};
 
 use crate::back::comes_back;
 use crate::levels::set_levels;
-use game::vertex::successors;
+use game::tables::Tables;
 use player::Player;
+use preds::Predecessors;
 use reach::closure::{clear, close, seed};
 use space::fill::fill;
 use storage::Winner;
@@ -20,50 +21,40 @@ use storage::answer::{mark, recorded};
 // Whether x lies on a cycle by the recorded moves with its own priority, of the wrong parity, as the highest.
 fn is_lost(
     x: usize,
-    owners: &[u8],
-    priorities: &[u8],
-    starts: &[u16],
-    targets: &[u16],
+    tables: Tables,
     winners: &[Winner],
     moves: &[u16],
-    ins: &[u16],
-    froms: &[u16],
+    preds: &Predecessors,
     work: &mut [u16],
 ) -> bool
-    requires { Rounding x (asked owners priorities starts targets) (claim winners moves) ins.now froms.now work.old }
-    ensures { Rounds x (lent owners priorities starts targets) (claimed winners moves) work.new result }
+    requires { Rounding x (asked tables) (claim winners moves) preds.now.ins preds.now.froms work.old }
+    ensures { Rounds x (lent tables) (claimed winners moves) work.new result }
 {
-    if u8::from(Player::of_priority(priorities[x])) == mark(winners, x) {
+    if u8::from(Player::of_priority(tables.priorities[x])) == mark(winners, x) {
         return false;
     }
-    let n = owners.len();
-    let bound = u16::from(priorities[x]);
+    let n = tables.vertices();
+    let bound = u16::from(tables.priorities[x]);
     let one = seed(n, x, work, 0);
-    let tail = close(n, ins, froms, bound, moves, work, one);
-    let back = comes_back(n, successors(starts, targets, x), recorded(moves, x), work);
+    let tail = close(n, preds, bound, moves, work, one);
+    let back = comes_back(n, tables.successors(x), recorded(moves, x), work);
     clear(n, work, tail);
     back
 }
 
 // The lowest such x.
 fn lowest_lost(
-    owners: &[u8],
-    priorities: &[u8],
-    starts: &[u16],
-    targets: &[u16],
+    tables: Tables,
     winners: &[Winner],
     moves: &[u16],
-    ins: &[u16],
-    froms: &[u16],
+    preds: &Predecessors,
     work: &mut [u16],
 ) -> Option<usize>
-    requires { Rounding 0 (asked owners priorities starts targets) (claim winners moves) ins.now froms.now work.old }
-    ensures { Finds (Fault14 (game_of (lent owners priorities starts targets)) (mark_of winners.now) (move_of moves.now)) result }
+    requires { Rounding 0 (asked tables) (claim winners moves) preds.now.ins preds.now.froms work.old }
+    ensures { Finds (Fault14 (game_of (lent tables)) (mark_of winners.now) (move_of moves.now)) result }
 {
-    for x in 0..owners.len() {
-        if is_lost(
-            x, owners, priorities, starts, targets, winners, moves, ins, froms, work,
-        ) {
+    for x in 0..tables.vertices() {
+        if is_lost(x, tables, winners, moves, preds, work) {
             return Some(x);
         }
     }
@@ -72,24 +63,18 @@ fn lowest_lost(
 
 // 14, given that none of 11 to 13 applies, the game's predecessor lists, and a work space all zero.
 pub fn lost_cycle(
-    owners: &[u8],
-    priorities: &[u8],
-    starts: &[u16],
-    targets: &[u16],
+    tables: Tables,
     winners: &[Winner],
     moves: &[u16],
-    ins: &[u16],
-    froms: &[u16],
+    preds: &Predecessors,
     work: &mut [u16],
 ) -> Option<usize>
-    requires { LostAsked (asked owners priorities starts targets) (claim winners moves) ins.now froms.now work.old }
-    ensures finds { Finds (Fault14 (game_of (lent owners priorities starts targets)) (mark_of winners.now) (move_of moves.now)) result }
+    requires { LostAsked (asked tables) (claim winners moves) preds.now.ins preds.now.froms work.old }
+    ensures finds { Finds (Fault14 (game_of (lent tables)) (mark_of winners.now) (move_of moves.now)) result }
     ensures zeroed { Zeroed work.old work.new }
 {
-    set_levels(priorities, work);
-    let found = lowest_lost(
-        owners, priorities, starts, targets, winners, moves, ins, froms, work,
-    );
+    set_levels(tables.priorities, work);
+    let found = lowest_lost(tables, winners, moves, preds, work);
     fill(work, 0);
     found
 }

@@ -11,7 +11,7 @@ use Rattle.justification.proofs.Eligible.{above_less}
 use Rattle.levels.specs.parts.Levels.{settled_of, level_of}
 use Rattle.levels.proofs.Floors.{floor_above}
 use Rattle.player.specs.promise.Player.{parity_of}
-use Rattle.space.specs.parts.Desk.{Desk}
+use Rattle.space.specs.declared.desk.Desk.{Desk}
 use Rattle.step.specs.parts.Stepping.{Engine, Fitting, Moved}
 use Rattle.step.specs.parts.Outcome.{SteppedIn}
 use Rattle.step.proofs.Steps.{stepped}

@@ -2,12 +2,14 @@
 #![tactic(auto)]
 
 ghost use Rattle.game.specs.promise.Lent.{asked, lent};
-ghost use Rattle.space.specs.parts.Desk.{desk_of};
 ghost use Rattle.draw.specs.parts.Drawing.{Drawable, Drawn, DrawVisitable};
 
+use game::tables::Tables;
 use game::vertex::wide;
 use offer::offer;
 use pile::{Pile, push};
+use preds::Predecessors;
+use space::desk::Desk;
 use step::step;
 use storage::Winner;
 
@@ -17,29 +19,31 @@ fn draw(
     u: usize,
     low: u16,
     pile: Pile,
-    owners: &[u8],
-    priorities: &[u8],
-    starts: &[u16],
-    targets: &[u16],
-    ins: &[u16],
-    froms: &[u16],
-    desk: &mut [u16],
+    tables: Tables,
+    preds: &Predecessors,
+    desk: &mut Desk,
     winners: &mut [Winner],
     moves: &mut [u16],
     work: &mut [u16],
 ) -> Pile
-    requires { Drawable x u pile.tail (asked owners priorities starts targets) ins.now froms.now (desk_of desk.old) winners.old moves.old work.old }
-    ensures { Drawn result.tail (lent owners priorities starts targets) ins.now froms.now winners.old moves.old work.old (desk_of desk.new) winners.new moves.new work.new }
+    requires { Drawable x u pile.tail (asked tables) preds.now.ins preds.now.froms desk.old winners.old moves.old work.old }
+    ensures { Drawn result.tail (lent tables) preds.now.ins preds.now.froms winners.old moves.old work.old desk.new winners.new moves.new work.new }
 {
-    let Some(line) = offer(
-        x, u, low, owners, priorities, starts, targets, desk, winners, work,
-    ) else {
+    let Some(line) = offer(x, u, low, tables, desk, winners, work) else {
         return pile;
     };
     step(
-        x, line, 0, priorities, ins, froms, desk, winners, moves, work,
+        x,
+        line,
+        0,
+        tables.priorities,
+        preds,
+        desk,
+        winners,
+        moves,
+        work,
     );
-    let above = priorities[x] as usize + 1;
+    let above = tables.priorities[x] as usize + 1;
     Pile {
         tail: push(x, desk, pile.tail),
         top: pile.top.max(above),
@@ -51,33 +55,25 @@ pub fn visit(
     u: usize,
     low: u16,
     pile: Pile,
-    owners: &[u8],
-    priorities: &[u8],
-    starts: &[u16],
-    targets: &[u16],
-    ins: &[u16],
-    froms: &[u16],
-    desk: &mut [u16],
+    tables: Tables,
+    preds: &Predecessors,
+    desk: &mut Desk,
     winners: &mut [Winner],
     moves: &mut [u16],
     work: &mut [u16],
 ) -> Pile
-    requires { DrawVisitable u pile.tail (asked owners priorities starts targets) ins.now froms.now (desk_of desk.old) winners.old moves.old work.old }
-    ensures { Drawn result.tail (lent owners priorities starts targets) ins.now froms.now winners.old moves.old work.old (desk_of desk.new) winners.new moves.new work.new }
+    requires { DrawVisitable u pile.tail (asked tables) preds.now.ins preds.now.froms desk.old winners.old moves.old work.old }
+    ensures { Drawn result.tail (lent tables) preds.now.ins preds.now.froms winners.old moves.old work.old desk.new winners.new moves.new work.new }
 {
     let mut drawn = pile;
-    for i in wide(ins[u])..wide(ins[u + 1]) {
+    for i in wide(preds.ins[u])..wide(preds.ins[u + 1]) {
         drawn = draw(
-            wide(froms[i]),
+            wide(preds.froms[i]),
             u,
             low,
             drawn,
-            owners,
-            priorities,
-            starts,
-            targets,
-            ins,
-            froms,
+            tables,
+            preds,
             desk,
             winners,
             moves,

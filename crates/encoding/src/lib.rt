@@ -2,55 +2,43 @@
 #![tactic(auto)]
 
 ghost use Rattle.std.specs.Prelude.{◌+◌, length};
+ghost use Rattle.game.specs.promise.Tables.{vertices};
 ghost use Rattle.game.specs.promise.Lent.{asked, lent};
 ghost use Rattle.format.specs.promise.Format.{plain, used_of, body_byte, block_byte};
 ghost use Rattle.format.specs.parts.Put.{Put, Begun};
 ghost use Rattle.encoding.specs.parts.Encoding.{Encodes};
 
 use format::extent::{kind_of, used_of, vertex_blocks};
+use game::tables::Tables;
 use pieces::frame::{clear, name, seal};
 use pieces::payload::{header, run_targets, run_vertices};
 
 // The payload of block b. Vertices and targets are counted from the first block of their kind.
-fn payload(
-    owners: &[u8],
-    priorities: &[u8],
-    starts: &[u16],
-    targets: &[u16],
-    b: usize,
-    part: &mut [u8],
-)
-    requires { Encodes (asked owners priorities starts targets) b part.old }
-    ensures { Put 6 (6 + used_of (length owners.now) (length targets.now) b) (body_byte (plain (lent owners priorities starts targets)) b) part.old part.new }
+fn payload(tables: Tables, b: usize, part: &mut [u8])
+    requires { Encodes (asked tables) b part.old }
+    ensures { Put 6 (6 + used_of (vertices (lent tables)) (length (lent tables).targets) b) (body_byte (plain (lent tables)) b) part.old part.new }
 {
     if b == 0 {
-        header(owners, targets, part);
+        header(tables, part);
         return;
     }
-    let blocks = vertex_blocks(owners.len());
+    let blocks = vertex_blocks(tables.vertices());
     if b <= blocks {
-        run_vertices(owners, priorities, starts, 126 * (b - 1), part);
+        run_vertices(tables, 126 * (b - 1), part);
         return;
     }
-    run_targets(targets, 252 * (b - 1 - blocks), part);
+    run_targets(tables.targets, 252 * (b - 1 - blocks), part);
 }
 
 // Every byte but the check's is put once; then the check reads them once.
-pub fn block(
-    owners: &[u8],
-    priorities: &[u8],
-    starts: &[u16],
-    targets: &[u16],
-    b: usize,
-    part: &mut [u8],
-)
-    requires { Encodes (asked owners priorities starts targets) b part.old }
-    ensures { Begun 512 (block_byte (plain (lent owners priorities starts targets)) b) 512 part.new }
+pub fn block(tables: Tables, b: usize, part: &mut [u8])
+    requires { Encodes (asked tables) b part.old }
+    ensures { Begun 512 (block_byte (plain (lent tables)) b) 512 part.new }
 {
-    let n = owners.len();
-    let used = used_of(n, targets.len(), b);
+    let n = tables.vertices();
+    let used = used_of(n, tables.targets.len(), b);
     name(part, b, kind_of(n, b), used);
-    payload(owners, priorities, starts, targets, b, part);
+    payload(tables, b, part);
     clear(part, 6 + used);
     seal(part);
 }

@@ -3,14 +3,14 @@ use Prim.Native.Nat.{ℕ, ◌-◌, ◌<◌}
 use mathlib.Core.Path.{◌≡◌, refl, sym, ap, subst, ◌∙◌}
 use mathlib.Core.List.{List}
 use native.Mathlib.Omega.{arith}
-use lib.ListN.{get_or, replicate, get_or-replicate, length-replicate}
+use lib.ListN.{get_or}
 use Rattle.game.specs.promise.Tables.{game_of, Tables, vertices}
 use Rattle.storage.specs.promise.Answer.{mark_of, move_of}
 use Rattle.justification.specs.parts.Safe.{Safe}
 use Rattle.lists.specs.parts.Cells.{Filled}
 use Rattle.space.specs.parts.Work.{nil}
-use Rattle.space.specs.parts.Desk.{Desk, desk_of, Laid}
-use Rattle.space.proofs.Desks.{cells_laid, blank_waiting}
+use Rattle.space.specs.declared.desk.Desk.{Desk}
+use Rattle.space.specs.parts.Desk.{Laid}
 use Rattle.waiting.specs.parts.Moves.{Fillable, FilledIn}
 use Rattle.levels.specs.parts.Levels.{settled_of, ByPriority}
 use Rattle.levels.proofs.Floors.{priority_levelled}
@@ -19,13 +19,6 @@ use Rattle.draw.specs.parts.Drawing.{Drainable}
 use Rattle.pile.proofs.Piles.{piled_none}
 use Rattle.engine.specs.parts.Settling.{NoLines, Settleable}
 use Rattle.rounds.specs.parts.Settled.{SettledTo}
-
--- a blank desk: it has its cells, and nobody waits
-pub blank_laid : Laid (desk_of (replicate 6656 0))
-blank_laid = cells_laid (replicate 6656 0) (length-replicate {A = ℕ} 6656 0)
-
-pub blank_idle : Filled (desk_of (replicate 6656 0)).waiting 0
-blank_idle = blank_waiting (replicate 6656 0) (record { all = λ i h. get_or-replicate 6656 i 0 0 (subst (λ (n : ℕ). i < n) (length-replicate {A = ℕ} 6656 0) h) })
 
 -- the lines below k are empty
 pub record Emptying (d₀ d : Desk) (k : ℕ) : Type 0 where

@@ -11,7 +11,7 @@ use Rattle.refusal.specs.parts.Found.{Finds, Scanned}
 use Rattle.refusal.proofs.Scans.{scan_more, found_at, found_nowhere}
 use Rattle.game.specs.promise.Tables.{next_of, Placed}
 use Rattle.game.specs.promise.Faults.{Descent, Fault7}
-use Rattle.game.proofs.Starts.{onward_from, stretch_of, stretch_length, stretch_place}
+use Rattle.game.proofs.Starts.{onward_from, stretch_of, stretch_length}
 
 -- somewhere in the stretch of u a target is not above the one before it
 pub record Unordered (starts targets : List ℕ) (u : ℕ) : Type 0 where
@@ -42,16 +42,13 @@ module _ (n : ℕ) (starts targets : List ℕ) (p : Placed n starts targets) whe
           let b : get_or starts v 0 + i < get_or starts f.vertex 0 = before_later v f.vertex i (omega arith) f.is_vertex d.holds.within in
           omega (arith, f.place)
 
-  -- r is the stretch of v, and the scan of it found i: the place in the targets is the lowest, and lies within them
+  -- r is the stretch of v, and the scan of it found i: the place in the targets is the lowest
   module _ (v i x : ℕ) (r : List ℕ) (f : Option ℕ) (l : v < n) (e : r ≡ next_of starts targets v) (at : f ≡ Some i) (d : Finds (Descent r) f) (start : x ≡ get_or starts v 0) where
     low : Lowest (Descent (next_of starts targets v)) i
     low = subst (λ (k : List ℕ). Lowest (Descent k) i) e (found_at (Descent r) at d)
 
     pub order_found : Scanned (Unordered starts targets) v → Lowest (Fault7 n starts targets) (x + i)
     order_found s = subst (λ (k : ℕ). Lowest (Fault7 n starts targets) (k + i)) (sym start) (lowest_found v i l s low)
-
-    pub order_within : x + i < length targets
-    order_within = rw start (stretch_place starts targets v i low.holds.within)
 
 pub order_more : (starts targets : List ℕ) (v : ℕ) (r : List ℕ) (f : Option ℕ) → r ≡ next_of starts targets v → f ≡ None → Finds (Descent r) f → Scanned (Unordered starts targets) v → Scanned (Unordered starts targets) (v + 1)
 order_more starts targets v r f e none d s =

@@ -1,25 +1,26 @@
 // A test for each of the rows 1 to 7: the lowest place at which it applies, or that it applies nowhere.
 #![tactic(auto)]
 
-ghost use Rattle.std.specs.Prelude.{◌<◌, length};
+ghost use Rattle.std.specs.Prelude.{ℕ, ◌<◌, length, get_or};
 ghost use Rattle.refusal.specs.parts.Found.{Finds};
-ghost use Rattle.game.specs.promise.Tables.{Placed};
+ghost use Rattle.game.specs.promise.Tables.{Placed, vertices};
 ghost use Rattle.game.specs.promise.Faults.{Fault1, Fault2, Fault3, Fault4, Fault5, Fault6, Fault7, Descent};
-ghost use Rattle.game.specs.promise.Lent.{lent};
+ghost use Rattle.game.specs.promise.Lent.{asked, lent};
 
-use game::vertex::{successors, wide};
+use game::tables::Tables;
+use game::vertex::wide;
 use game::{EDGES, VERTICES};
 use player::Player;
 
 // 1: the lengths.
-pub fn sizes(owners: &[u8], priorities: &[u8], starts: &[u16], targets: &[u16]) -> Option<usize>
-    ensures { Finds (Fault1 (lent owners priorities starts targets)) result }
+pub fn sizes(tables: Tables) -> Option<usize>
+    ensures { Finds (Fault1 (lent tables)) result }
 {
-    let n = owners.len();
+    let n = tables.vertices();
     let fit = (1..=VERTICES).contains(&n)
-        && priorities.len() == n
-        && starts.len() == n + 1
-        && targets.len() <= EDGES;
+        && tables.priorities.len() == n
+        && tables.starts.len() == n + 1
+        && tables.targets.len() <= EDGES;
     (!fit).then_some(0)
 }
 
@@ -32,9 +33,10 @@ pub fn owner(owners: &[u8]) -> Option<usize>
         .position(|&owner| Player::try_from(owner).is_err())
 }
 
-// 3: a priority of 255.
+// 3: a priority of 255. The second promise is what their type says; a proof sees it here alone, and not where they are a field of the tables.
 pub fn priority(priorities: &[u8]) -> Option<usize>
-    ensures { Finds (Fault3 priorities.now) result }
+    ensures finds { Finds (Fault3 priorities.now) result }
+    ensures bytes { (v : ℕ) → get_or priorities.now v 0 < 256 }
 {
     priorities.iter().position(|&priority| priority == 255)
 }
@@ -60,12 +62,12 @@ pub fn start(starts: &[u16], targets: &[u16]) -> Option<usize>
 }
 
 // 5: a vertex with no successor.
-pub fn stuck(n: usize, starts: &[u16], targets: &[u16]) -> Option<usize>
-    requires { Placed n starts.now targets.now }
-    ensures { Finds (Fault5 n starts.now targets.now) result }
+pub fn stuck(tables: Tables) -> Option<usize>
+    requires { Placed (vertices (asked tables)) (asked tables).starts (asked tables).targets }
+    ensures { Finds (Fault5 (vertices (lent tables)) (lent tables).starts (lent tables).targets) result }
 {
-    for v in 0..n {
-        if successors(starts, targets, v).is_empty() {
+    for v in 0..tables.vertices() {
+        if tables.successors(v).is_empty() {
             return Some(v);
         }
     }
@@ -87,13 +89,13 @@ fn descent(stretch: &[u16]) -> Option<usize>
 }
 
 // 7: a stretch that does not ascend.
-pub fn order(n: usize, starts: &[u16], targets: &[u16]) -> Option<usize>
-    requires { Placed n starts.now targets.now }
-    ensures { Finds (Fault7 n starts.now targets.now) result }
+pub fn order(tables: Tables) -> Option<usize>
+    requires { Placed (vertices (asked tables)) (asked tables).starts (asked tables).targets }
+    ensures { Finds (Fault7 (vertices (lent tables)) (lent tables).starts (lent tables).targets) result }
 {
-    for v in 0..n {
-        if let Some(i) = descent(successors(starts, targets, v)) {
-            return Some(wide(starts[v]) + i);
+    for v in 0..tables.vertices() {
+        if let Some(i) = descent(tables.successors(v)) {
+            return Some(wide(tables.starts[v]) + i);
         }
     }
     None

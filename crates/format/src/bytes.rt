@@ -35,6 +35,7 @@ pub fn edges(file: &[u8]) -> usize
     word(file, 8) as usize
 }
 
+// A number and no enum: the file may hold any byte.
 pub fn rule(file: &[u8]) -> u8
     requires { 512 ≤ length file.now }
     ensures { result ≡ rule_filed file.now }

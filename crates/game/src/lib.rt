@@ -2,6 +2,7 @@
 #![tactic(auto)]
 
 pub mod buffers;
+pub mod tables;
 pub mod vertex;
 
 // The most vertices and the most edges that a game may have, and what stands for none: no move, nobody.

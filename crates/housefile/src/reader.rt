@@ -11,6 +11,7 @@ ghost use Rattle.housefile.specs.parts.Storing.{SameLengths, Stored};
 use crate::Header;
 use format::bytes;
 use game::buffers::compare;
+use game::tables::Tables;
 use game::{EDGES, VERTICES};
 use loading::judge::judge;
 use refusal::{Kind, Refusal, refuse};
@@ -27,22 +28,19 @@ fn lengths(owners: usize, priorities: usize, starts: usize, targets: usize) -> O
 
 // Four tables over the lent ones of their lengths.
 fn store(
-    own: &[u8],
-    ranks: &[u8],
-    bounds: &[u16],
-    ends: &[u16],
+    from: Tables,
     owners: &mut [u8],
     priorities: &mut [u8],
     starts: &mut [u16],
     targets: &mut [u16],
 )
-    requires { SameLengths (asked own ranks bounds ends) (tables_of owners.old priorities.old starts.old targets.old) }
-    ensures { Stored (lent own ranks bounds ends) (written owners priorities starts targets) }
+    requires { SameLengths (asked from) (tables_of owners.old priorities.old starts.old targets.old) }
+    ensures { Stored (lent from) (written owners priorities starts targets) }
 {
-    owners.copy_from_slice(own);
-    priorities.copy_from_slice(ranks);
-    starts.copy_from_slice(bounds);
-    targets.copy_from_slice(ends);
+    owners.copy_from_slice(from.owners);
+    priorities.copy_from_slice(from.priorities);
+    starts.copy_from_slice(from.starts);
+    targets.copy_from_slice(from.targets);
 }
 
 // What is said of a file that is read.
@@ -75,8 +73,12 @@ pub fn read(
         lengths(owners.len(), priorities.len(), starts.len(), targets.len()),
         Kind::Buffer,
     )?;
-    store(
-        &own, &ranks, &bounds, &ends, owners, priorities, starts, targets,
-    );
+    let judged = Tables {
+        owners: &own,
+        priorities: &ranks,
+        starts: &bounds,
+        targets: &ends,
+    };
+    store(judged, owners, priorities, starts, targets);
     Ok(header(file))
 }

@@ -1,17 +1,19 @@
 // The update's tests before the checker's: both games' tables, their sizes, the lengths of the five lent lists.
 #![tactic(auto)]
 
-ghost use Rattle.std.specs.Prelude.{◌≡◌};
+ghost use Rattle.std.specs.Prelude.{◌≡◌, OnOk};
 ghost use Rattle.refusal.specs.promise.Row.{Gives};
 ghost use Rattle.refusal.specs.parts.Found.{Finds};
 ghost use Rattle.refusal.specs.promise.Number.{tested_said};
 ghost use Rattle.refusal.specs.declared.TableFault.{TableFault};
+ghost use Rattle.game.specs.promise.Tables.{WellFormed};
 ghost use Rattle.game.specs.promise.Faults.{table_rows};
 ghost use Rattle.game.specs.promise.Lent.{lent};
 ghost use Rattle.storage.specs.promise.Lent.{claimed};
 ghost use Rattle.inputs.specs.promise.Inputs.{Fault9, input_of, second_rows, test_rows};
 
 use game::buffers::compare;
+use game::tables::Tables;
 use refusal::{Kind, Refusal, refuse};
 use storage::Winner;
 use storage::answer::cells;
@@ -33,15 +35,11 @@ fn in_second(refusal: Refusal) -> Refusal
 }
 
 // 21 to 27: the second game's tables.
-fn test_second(
-    owners: &[u8],
-    priorities: &[u8],
-    starts: &[u16],
-    targets: &[u16],
-) -> Result<(), Refusal>
-    ensures { Gives (second_rows (table_rows (lent owners priorities starts targets))) (tested_said result) }
+fn test_second(tables: Tables) -> Result<(), Refusal>
+    ensures gives { Gives (second_rows (table_rows (lent tables))) (tested_said result) }
+    ensures formed { OnOk result (WellFormed (lent tables)) }
 {
-    test_tables(owners, priorities, starts, targets).map_err(in_second)
+    test_tables(tables).map_err(in_second)
 }
 
 // 9: the games differ in their numbers of vertices.
@@ -53,26 +51,21 @@ fn same_size(n: usize, m: usize) -> Option<usize>
 
 // The first of 1 to 7, 21 to 27, 9 and 8 that applies, or that none does.
 pub fn test_input(
-    owners: &[u8],
-    priorities: &[u8],
-    starts: &[u16],
-    targets: &[u16],
-    owners2: &[u8],
-    priorities2: &[u8],
-    starts2: &[u16],
-    targets2: &[u16],
+    first: Tables,
+    second: Tables,
     old_winners: &[Winner],
     old_moves: &[u16],
     winners: &[Winner],
     moves: &[u16],
     work: &[u16],
 ) -> Result<(), Refusal>
-    ensures { Gives (test_rows (input_of (lent owners priorities starts targets) (lent owners2 priorities2 starts2 targets2) (claimed old_winners old_moves)) (record { answer = claimed winners moves; work = work.now })) (tested_said result) }
+    ensures gives { Gives (test_rows (input_of (lent first) (lent second) (claimed old_winners old_moves)) (record { answer = claimed winners moves; work = work.now })) (tested_said result) }
+    ensures formed { OnOk result (WellFormed (lent first) × WellFormed (lent second)) }
 {
-    let n = owners.len();
-    test_tables(owners, priorities, starts, targets)?;
-    test_second(owners2, priorities2, starts2, targets2)?;
-    refuse(same_size(n, owners2.len()), Kind::Vertices)?;
+    test_tables(first)?;
+    test_second(second)?;
+    let n = first.vertices();
+    refuse(same_size(n, second.vertices()), Kind::Vertices)?;
     let lent = lengths(n, winners.len(), moves.len(), work.len());
     let moved = compare(lent, old_moves.len(), n);
     refuse(compare(moved, old_winners.len(), cells(n)), Kind::Buffer)

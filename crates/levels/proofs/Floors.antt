@@ -11,7 +11,8 @@ use Rattle.game.specs.promise.Game.{Game}
 use Rattle.justification.specs.parts.Safe.{Safe, Above, Levelled}
 use Rattle.justification.proofs.Eligible.{open_above, safe_above}
 use Rattle.space.specs.parts.Work.{section}
-use Rattle.space.specs.parts.Desk.{Desk, Laid, put_level}
+use Rattle.space.specs.declared.desk.Desk.{Desk}
+use Rattle.space.specs.parts.Desk.{Laid, put_level}
 use Rattle.space.proofs.Desks.{laid_level}
 use Rattle.levels.specs.parts.Levels.{settled_of, level_of, LevelSet, LevelsOnly, FloorOf, ByPriority}
 use Rattle.levels.proofs.Flags.{flag_settled, settled_flag}

@@ -6,7 +6,7 @@ ghost use Rattle.game.specs.promise.Lent.{asked, lent};
 ghost use Rattle.line.specs.parts.Testing.{Testable, TestedBy};
 
 use game::NONE;
-use game::vertex::{owner, successors};
+use game::tables::Tables;
 use storage::Winner;
 use storage::vertex::test_vertex;
 
@@ -19,21 +19,14 @@ pub struct Line {
 }
 
 // The line that the test gives, with the vertex's own priority as its level.
-pub fn test(
-    v: usize,
-    owners: &[u8],
-    priorities: &[u8],
-    starts: &[u16],
-    targets: &[u16],
-    winners: &[Winner],
-) -> Line
-    requires { Testable v (asked owners priorities starts targets) winners.now }
-    ensures tested { TestedBy v (lent owners priorities starts targets) winners.now result.winner result.to }
-    ensures level { result.level ≡ get_or priorities.now v 0 }
+pub fn test(v: usize, tables: Tables, winners: &[Winner]) -> Line
+    requires { Testable v (asked tables) winners.now }
+    ensures tested { TestedBy v (lent tables) winners.now result.winner result.to }
+    ensures level { result.level ≡ get_or (lent tables).priorities v 0 }
 {
-    let owner = owner(owners, v);
-    let level = priorities[v] as u16;
-    match test_vertex(owner, successors(starts, targets, v), winners) {
+    let owner = tables.owner(v);
+    let level = tables.priorities[v] as u16;
+    match test_vertex(owner, tables.successors(v), winners) {
         Some(w) => Line {
             winner: u8::from(owner),
             to: w,

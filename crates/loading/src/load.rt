@@ -12,6 +12,7 @@ ghost use Rattle.loading.specs.parts.Loading.{blank, Loads};
 use decoding::fields;
 use decoding::turn::turn;
 use format::bytes::{edges, vertices};
+use game::tables::Tables;
 use refusal::Refusal;
 use tables::test_tables;
 
@@ -33,24 +34,18 @@ fn decode(
 }
 
 // 2 to 7: the test of the tables, on those that are filed.
-fn values(
-    file: &[u8],
-    owners: &[u8],
-    priorities: &[u8],
-    starts: &[u16],
-    targets: &[u16],
-) -> Result<(), Refusal>
-    requires { Summed file.now × Holding (filed file.now).tables (asked owners priorities starts targets) }
+fn values(file: &[u8], tables: Tables) -> Result<(), Refusal>
+    requires { Summed file.now × Holding (filed file.now).tables (asked tables) }
     ensures { Gives (filed_rows file.now) (tested_said result) }
 {
     let n = vertices(file);
     let m = edges(file);
-    test_tables(
-        &owners[..n],
-        &priorities[..n],
-        &starts[..n + 1],
-        &targets[..m],
-    )
+    test_tables(Tables {
+        owners: &tables.owners[..n],
+        priorities: &tables.priorities[..n],
+        starts: &tables.starts[..n + 1],
+        targets: &tables.targets[..m],
+    })
 }
 
 // The priorities are tested as they are filed, and turned by the rule only then.
@@ -65,7 +60,13 @@ pub fn load(
     ensures { Loads (filed_rows file.now) file.now (written owners priorities starts targets) result }
 {
     decode(file, owners, priorities, starts, targets);
-    values(file, owners, priorities, starts, targets)?;
+    let filed = Tables {
+        owners,
+        priorities,
+        starts,
+        targets,
+    };
+    values(file, filed)?;
     turn(file, priorities);
     Ok(())
 }

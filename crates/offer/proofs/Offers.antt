@@ -11,7 +11,7 @@ use Rattle.game.specs.parts.Stretch.{Stretch}
 use Rattle.storage.specs.promise.Answer.{mark_room, mark_of}
 use Rattle.storage.proofs.Stores.{has_room}
 use Rattle.space.specs.parts.Work.{section}
-use Rattle.space.specs.parts.Desk.{Desk}
+use Rattle.space.specs.declared.desk.Desk.{Desk}
 use Rattle.game.proofs.Starts.{stretch_of}
 use Rattle.winning.specs.promise.Answer.{no_move}
 use Rattle.levels.specs.parts.Levels.{settled_of, Seen, FloorOf}

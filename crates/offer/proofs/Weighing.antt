@@ -6,7 +6,7 @@ use native.Mathlib.Omega.{arith}
 use lib.ListN.{length, get_or}
 use Rattle.storage.specs.promise.Answer.{mark_room, mark_of}
 use Rattle.storage.proofs.Stores.{has_room}
-use Rattle.space.specs.parts.Desk.{Desk}
+use Rattle.space.specs.declared.desk.Desk.{Desk}
 use Rattle.offer.specs.parts.Offering.{Grounds, AllSeen}
 
 pub record Weighing (winner bound : ℕ) (stretch priorities levels winners work : List ℕ) (least i : ℕ) : Type 0 where

@@ -2,13 +2,14 @@
 #![tactic(auto)]
 
 ghost use Rattle.game.specs.promise.Lent.{asked, lent};
-ghost use Rattle.space.specs.parts.Desk.{desk_of};
 ghost use Rattle.offer.specs.parts.Offering.{AllSeen, AllFor, Offerable, Offers};
 
 use game::NONE;
-use game::vertex::{successors, wide};
+use game::tables::Tables;
+use game::vertex::wide;
 use levels::floor;
 use line::Line;
+use space::desk::Desk;
 use space::work::flag;
 use storage::Winner;
 use storage::answer::mark;
@@ -19,12 +20,12 @@ fn all_for(
     bound: u16,
     stretch: &[u16],
     priorities: &[u8],
-    desk: &[u16],
+    desk: &Desk,
     winners: &[Winner],
     work: &[u16],
 ) -> Option<u16>
-    requires { AllSeen stretch.now priorities.now (desk_of desk.now) winners.now work.now }
-    ensures { AllFor winner bound stretch.now priorities.now (desk_of desk.now).levels winners.now work.now result }
+    requires { AllSeen stretch.now priorities.now desk.now winners.now work.now }
+    ensures { AllFor winner bound stretch.now priorities.now desk.now.levels winners.now work.now result }
 {
     let mut least: u16 = NONE;
     for &to in stretch {
@@ -47,24 +48,21 @@ pub fn offer(
     x: usize,
     u: usize,
     low: u16,
-    owners: &[u8],
-    priorities: &[u8],
-    starts: &[u16],
-    targets: &[u16],
-    desk: &[u16],
+    tables: Tables,
+    desk: &Desk,
     winners: &[Winner],
     work: &[u16],
 ) -> Option<Line>
-    requires { Offerable x u (asked owners priorities starts targets) (desk_of desk.now) winners.now work.now }
-    ensures { Offers x (lent owners priorities starts targets) (desk_of desk.now).levels winners.now work.now result }
+    requires { Offerable x u (asked tables) desk.now winners.now work.now }
+    ensures { Offers x (lent tables) desk.now.levels winners.now work.now result }
 {
-    if flag(priorities.len(), x, work) == 0 {
+    if flag(tables.priorities.len(), x, work) == 0 {
         return None;
     }
-    let bound = low.max(priorities[x] as u16);
+    let bound = low.max(tables.priorities[x] as u16);
     let winner = mark(winners, u);
-    if owners[x] == winner {
-        let high = floor(u, priorities, desk, work);
+    if tables.owners[x] == winner {
+        let high = floor(u, tables.priorities, desk, work);
         if high < bound {
             return None;
         }
@@ -77,8 +75,8 @@ pub fn offer(
     let level = all_for(
         winner,
         bound,
-        successors(starts, targets, x),
-        priorities,
+        tables.successors(x),
+        tables.priorities,
         desk,
         winners,
         work,

@@ -3,13 +3,15 @@
 
 ghost use Rattle.std.specs.Prelude.{◌≢◌};
 ghost use Rattle.game.specs.promise.Lent.{asked, lent};
-ghost use Rattle.space.specs.parts.Desk.{desk_of};
 ghost use Rattle.draw.specs.parts.Drawing.{Drainable};
 ghost use Rattle.orders.specs.parts.Ending.{Ran};
 
 use attraction::attraction;
+use game::tables::Tables;
 use orders::Ended;
 use orders::lowest::lowest;
+use preds::Predecessors;
+use space::desk::Desk;
 use storage::Winner;
 
 // Which of the two orders a round takes.
@@ -34,26 +36,19 @@ impl Order {
 pub fn round(
     order: Order,
     budget: usize,
-    owners: &[u8],
-    priorities: &[u8],
-    starts: &[u16],
-    targets: &[u16],
-    ins: &[u16],
-    froms: &[u16],
-    desk: &mut [u16],
+    tables: Tables,
+    preds: &Predecessors,
+    desk: &mut Desk,
     winners: &mut [Winner],
     moves: &mut [u16],
     work: &mut [u16],
 ) -> Ended
-    requires { Drainable 0 (asked owners priorities starts targets) ins.now froms.now (desk_of desk.old) winners.old moves.old work.old }
-    ensures { Ran (lent owners priorities starts targets) ins.now froms.now winners.old moves.old work.old (desk_of desk.new) winners.new moves.new work.new result }
+    requires { Drainable 0 (asked tables) preds.now.ins preds.now.froms desk.old winners.old moves.old work.old }
+    ensures { Ran (lent tables) preds.now.ins preds.now.froms winners.old moves.old work.old desk.new winners.new moves.new work.new result }
 {
-    match order {
-        Order::Lowest => lowest(
-            budget, owners, priorities, starts, targets, ins, froms, desk, winners, moves, work,
-        ),
-        Order::Attraction => attraction(
-            budget, owners, priorities, starts, targets, ins, froms, desk, winners, moves, work,
-        ),
+    // No `match`: with one LLVM inlines less, and random games take a tenth more time to solve (measured).
+    if order == Order::Lowest {
+        return lowest(budget, tables, preds, desk, winners, moves, work);
     }
+    attraction(budget, tables, preds, desk, winners, moves, work)
 }

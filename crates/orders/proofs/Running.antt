@@ -7,7 +7,7 @@ use Rattle.game.specs.promise.Tables.{game_of, Tables, vertices}
 use Rattle.storage.specs.promise.Answer.{mark_of}
 use Rattle.justification.specs.parts.Measure.{measure}
 use Rattle.space.specs.parts.Work.{section}
-use Rattle.space.specs.parts.Desk.{Desk}
+use Rattle.space.specs.declared.desk.Desk.{Desk}
 use Rattle.std.specs.Prelude.{Option, Some, None}
 use Rattle.pick.specs.parts.Order.{Picks}
 use Rattle.waiting.specs.parts.Open.{LeastOpen, AllSettled, NoneBelow}

@@ -1,13 +1,15 @@
 // Lowest first: again and again an open vertex of least priority gets the line that the test gives. It is always eligible.
 ghost use Rattle.game.specs.promise.Lent.{asked, lent};
-ghost use Rattle.space.specs.parts.Desk.{desk_of};
 ghost use Rattle.step.specs.parts.Stepping.{Engine};
 ghost use Rattle.orders.specs.parts.Ending.{Ran, Fell};
 
 use crate::Ended;
+use game::tables::Tables;
 use line::test;
 use pick::pick;
 use player::Player;
+use preds::Predecessors;
+use space::desk::Desk;
 use storage::Winner;
 use turn::keep::keep;
 use turn::turn;
@@ -16,41 +18,36 @@ use turn::turn;
 // game takes an eighth more instructions.
 pub fn lowest(
     budget: usize,
-    owners: &[u8],
-    priorities: &[u8],
-    starts: &[u16],
-    targets: &[u16],
-    ins: &[u16],
-    froms: &[u16],
-    desk: &mut [u16],
+    tables: Tables,
+    preds: &Predecessors,
+    desk: &mut Desk,
     winners: &mut [Winner],
     moves: &mut [u16],
     work: &mut [u16],
 ) -> Ended
-    requires { Engine (asked owners priorities starts targets) ins.now froms.now (desk_of desk.old) winners.old moves.old work.old }
-    ensures ran { Ran (lent owners priorities starts targets) ins.now froms.now winners.old moves.old work.old (desk_of desk.new) winners.new moves.new work.new result }
-    ensures fell { Fell budget (lent owners priorities starts targets) winners.old work.old winners.new work.new result }
+    requires { Engine (asked tables) preds.now.ins preds.now.froms desk.old winners.old moves.old work.old }
+    ensures ran { Ran (lent tables) preds.now.ins preds.now.froms winners.old moves.old work.old desk.new winners.new moves.new work.new result }
+    ensures fell { Fell budget (lent tables) winners.old work.old winners.new work.new result }
 {
-    let n = owners.len();
+    let n = tables.owners.len();
     let mut low: usize = 0;
     for _ in 0..budget {
         let Some(v) = pick(n, low, desk, work) else {
             return Ended::Done;
         };
-        let line = test(v, owners, priorities, starts, targets, winners);
-        let own = priorities[v];
+        let line = test(v, tables, winners);
+        let own = tables.priorities[v];
         if line.winner == u8::from(Player::of_priority(own)) {
             keep(v, line, desk, moves, work);
             low = own as usize;
         } else {
             low = turn(
-                priorities.len(),
+                tables.priorities.len(),
                 v,
                 line,
                 own as usize,
-                priorities,
-                ins,
-                froms,
+                tables.priorities,
+                preds,
                 desk,
                 winners,
                 moves,

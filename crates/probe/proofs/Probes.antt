@@ -4,7 +4,7 @@ use mathlib.Core.Path.{◌≡◌}
 use mathlib.Core.List.{List}
 use lib.ListN.{length, get_or}
 use Rattle.game.specs.promise.Tables.{Tables, vertices}
-use Rattle.space.specs.parts.Desk.{Desk}
+use Rattle.space.specs.declared.desk.Desk.{Desk}
 use Rattle.line.specs.parts.Testing.{TestedBy}
 use Rattle.step.specs.parts.Stepping.{Moved}
 use Rattle.step.specs.parts.Outcome.{SteppedIn}

@@ -5,6 +5,7 @@ ghost use Rattle.reach.specs.parts.Queue.{SeedableIn, PushedIn, ClosableIn, Clos
 
 use game::NONE;
 use game::vertex::wide;
+use preds::Predecessors;
 use space::work::{flag, queued, reached, set_queued, set_reached};
 
 // One more seed.
@@ -60,19 +61,18 @@ fn try_step(
 fn visit(
     n: usize,
     w: usize,
-    ins: &[u16],
-    froms: &[u16],
+    preds: &Predecessors,
     bound: u16,
     choice: &[u16],
     work: &mut [u16],
     tail: usize,
 ) -> usize
-    requires { VisitableIn n w ins.now froms.now choice.now work.old tail }
-    ensures { VisitedIn n w ins.now froms.now choice.now bound work.old tail work.new result }
+    requires { VisitableIn n w preds.now.ins preds.now.froms choice.now work.old tail }
+    ensures { VisitedIn n w preds.now.ins preds.now.froms choice.now bound work.old tail work.new result }
 {
     let mut end = tail;
-    for i in wide(ins[w])..wide(ins[w + 1]) {
-        end = try_step(n, wide(froms[i]), w, bound, choice, work, end);
+    for i in wide(preds.ins[w])..wide(preds.ins[w + 1]) {
+        end = try_step(n, wide(preds.froms[i]), w, bound, choice, work, end);
     }
     end
 }
@@ -80,22 +80,21 @@ fn visit(
 // Reaches whatever leads to the reached vertices by allowed steps; the result is the number of reached vertices.
 pub fn close(
     n: usize,
-    ins: &[u16],
-    froms: &[u16],
+    preds: &Predecessors,
     bound: u16,
     choice: &[u16],
     work: &mut [u16],
     tail: usize,
 ) -> usize
-    requires { ClosableIn n ins.now froms.now choice.now work.old tail }
-    ensures { ClosedIn n ins.now froms.now choice.now bound work.old work.new result }
+    requires { ClosableIn n preds.now.ins preds.now.froms choice.now work.old tail }
+    ensures { ClosedIn n preds.now.ins preds.now.froms choice.now bound work.old work.new result }
 {
     let mut end = tail;
     let mut h = 0;
     // No `for`: the queue grows while it is read.
     while h < end {
         let w = wide(queued(n, h, work));
-        end = visit(n, w, ins, froms, bound, choice, work, end);
+        end = visit(n, w, preds, bound, choice, work, end);
         h += 1;
     }
     end

@@ -8,7 +8,7 @@ use lib.ListN.{length, get_or}
 use Rattle.storage.specs.promise.Answer.{mark_room, mark_of}
 use Rattle.storage.proofs.Stores.{has_room, still_stored}
 use Rattle.space.specs.parts.Work.{section, Cell}
-use Rattle.space.specs.parts.Desk.{Desk}
+use Rattle.space.specs.declared.desk.Desk.{Desk}
 use Rattle.reach.proofs.Queues.{tail_bounded}
 use Rattle.waiting.specs.parts.Lines.{Covered}
 use Rattle.waiting.specs.parts.Moves.{LinesOnly, LinesOf}

@@ -2,21 +2,21 @@
 #![tactic(auto)]
 
 ghost use Rattle.std.specs.Prelude.{◌≤◌};
-ghost use Rattle.space.specs.parts.Desk.{desk_of};
 ghost use Rattle.waiting.specs.parts.Moves.{Standable};
 ghost use Rattle.reopen.specs.parts.Reopening.{OpenedIn, Reopenable, Reopened};
 
 use game::vertex::wide;
 use player::Player;
+use space::desk::Desk;
 use space::work::{queued, set_flag};
 use storage::Winner;
 use storage::answer::set_mark;
 use waiting::stand;
 
 // Opens u, which waits in its line from now on.
-fn open_again(n: usize, u: usize, priorities: &[u8], desk: &mut [u16], work: &mut [u16])
-    requires { Standable n u priorities.now (desk_of desk.old) work.old }
-    ensures { OpenedIn n u priorities.now (desk_of desk.old) work.old (desk_of desk.new) work.new }
+fn open_again(n: usize, u: usize, priorities: &[u8], desk: &mut Desk, work: &mut [u16])
+    requires { Standable n u priorities.now desk.old work.old }
+    ensures { OpenedIn n u priorities.now desk.old work.old desk.new work.new }
 {
     stand(n, u, priorities, desk, work);
     set_flag(n, u, 1, work);
@@ -26,14 +26,14 @@ fn open_again(n: usize, u: usize, priorities: &[u8], desk: &mut [u16], work: &mu
 pub fn reopen(
     n: usize,
     priorities: &[u8],
-    desk: &mut [u16],
+    desk: &mut Desk,
     winners: &mut [Winner],
     work: &mut [u16],
     tail: usize,
     from: usize,
 ) -> usize
-    requires { Reopenable n priorities.now (desk_of desk.old) winners.old work.old tail }
-    ensures { Reopened n priorities.now (desk_of desk.old) winners.old work.old from (desk_of desk.new) winners.new work.new result }
+    requires { Reopenable n priorities.now desk.old winners.old work.old tail }
+    ensures { Reopened n priorities.now desk.old winners.old work.old from desk.new winners.new work.new result }
 {
     let mut low = from;
     for i in 0..tail {

@@ -7,7 +7,8 @@ use native.Mathlib.Omega.{arith}
 use native.Mathlib.Decide.{ℕ_discrete}
 use lib.ListN.{get_or}
 use Rattle.space.specs.parts.Work.{section}
-use Rattle.space.specs.parts.Desk.{Desk, Laid, put_level}
+use Rattle.space.specs.declared.desk.Desk.{Desk}
+use Rattle.space.specs.parts.Desk.{Laid, put_level}
 use Rattle.levels.specs.parts.Levels.{level_of, LevelSet, LevelsOnly}
 use Rattle.levels.proofs.Floors.{level_set, level_only, levels_more}
 use Rattle.restart.specs.parts.Restarting.{Firmable}

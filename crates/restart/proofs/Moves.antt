@@ -5,7 +5,7 @@ use mathlib.Core.List.{List}
 use lib.ListN.{length}
 use Rattle.game.specs.promise.Tables.{Tables, vertices}
 use Rattle.storage.proofs.Stores.{still_stored}
-use Rattle.space.specs.parts.Desk.{Desk}
+use Rattle.space.specs.declared.desk.Desk.{Desk}
 use Rattle.waiting.proofs.Standings.{standing_lines}
 use Rattle.step.specs.parts.Stepping.{Engine, Moved}
 use Rattle.restart.specs.parts.Restarting.{Restartable, RestartedIn}

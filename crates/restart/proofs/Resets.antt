@@ -14,7 +14,7 @@ use Rattle.justification.proofs.Lines.{within}
 use Rattle.justification.proofs.ResetStep.{resets, reset_above}
 use Rattle.reach.specs.parts.Closure.{Allowed}
 use Rattle.space.specs.parts.Work.{section}
-use Rattle.space.specs.parts.Desk.{Desk}
+use Rattle.space.specs.declared.desk.Desk.{Desk}
 use Rattle.levels.specs.parts.Levels.{settled_of, level_of}
 use Rattle.levels.proofs.Flags.{flag_settled, settled_flag, same_settled}
 use Rattle.step.specs.parts.State.{KeptSet, Carried}

@@ -6,7 +6,7 @@ use mathlib.Core.List.{List}
 use native.Mathlib.Omega.{arith}
 use lib.ListN.{length, get_or}
 use Rattle.space.specs.parts.Work.{section}
-use Rattle.space.specs.parts.Desk.{Desk}
+use Rattle.space.specs.declared.desk.Desk.{Desk}
 use Rattle.reach.specs.parts.Queue.{ClosableIn, ClosedIn, ClearedIn}
 use Rattle.space.proofs.Sections.{section_long}
 use Rattle.waiting.specs.parts.Lines.{Lines}

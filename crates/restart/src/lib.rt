@@ -2,12 +2,12 @@
 #![tactic(auto)]
 
 ghost use Rattle.std.specs.Prelude.{length};
-ghost use Rattle.space.specs.parts.Desk.{desk_of};
 ghost use Rattle.restart.specs.parts.Restarting.{OpenSeedable, SeededAll, Firmable, Firmed, Restartable, RestartedIn};
 
+use preds::Predecessors;
 use reach::closure::{clear, close, seed};
 use reopen::reopen;
-use space::desk::set_level;
+use space::desk::Desk;
 use space::work::{flag, reached};
 use storage::Winner;
 
@@ -26,13 +26,13 @@ fn seed_open(n: usize, work: &mut [u16]) -> usize
 }
 
 // What is not reached is firm: its level is above all priorities.
-fn make_firm(n: usize, desk: &mut [u16], work: &[u16])
-    requires { Firmable n (desk_of desk.old) work.now }
-    ensures { Firmed n (desk_of desk.old) work.now (desk_of desk.new) }
+fn make_firm(n: usize, desk: &mut Desk, work: &[u16])
+    requires { Firmable n desk.old work.now }
+    ensures { Firmed n desk.old work.now desk.new }
 {
     for v in 0..n {
         if reached(n, v, work) == 0 {
-            set_level(v, 256, desk);
+            desk.set_level(v, 256);
         }
     }
 }
@@ -40,19 +40,18 @@ fn make_firm(n: usize, desk: &mut [u16], work: &[u16])
 // Opens again all that leans on an open vertex.
 pub fn restart(
     priorities: &[u8],
-    ins: &[u16],
-    froms: &[u16],
+    preds: &Predecessors,
     moves: &[u16],
-    desk: &mut [u16],
+    desk: &mut Desk,
     winners: &mut [Winner],
     work: &mut [u16],
 )
-    requires { Restartable (length priorities.now) priorities.now ins.now froms.now (desk_of desk.old) winners.old work.old }
-    ensures { RestartedIn (length priorities.now) priorities.now ins.now froms.now moves.now winners.old work.old (desk_of desk.new) winners.new work.new }
+    requires { Restartable (length priorities.now) priorities.now preds.now.ins preds.now.froms desk.old winners.old work.old }
+    ensures { RestartedIn (length priorities.now) priorities.now preds.now.ins preds.now.froms moves.now winners.old work.old desk.new winners.new work.new }
 {
     let n = priorities.len();
     let tail = seed_open(n, work);
-    let end = close(n, ins, froms, 0, moves, work, tail);
+    let end = close(n, preds, 0, moves, work, tail);
     reopen(n, priorities, desk, winners, work, end, 0);
     make_firm(n, desk, work);
     clear(n, work, end);

@@ -4,7 +4,7 @@ use mathlib.Core.Path.{sym, ◌∙◌}
 use mathlib.Core.List.{List}
 use lib.ListN.{length}
 use Rattle.game.specs.promise.Tables.{Tables}
-use Rattle.space.specs.parts.Desk.{Desk}
+use Rattle.space.specs.declared.desk.Desk.{Desk}
 use Rattle.step.specs.parts.Stepping.{Engine, Moved}
 use Rattle.step.proofs.Moving.{moved_more}
 use Rattle.draw.specs.parts.Drawing.{Drawn}

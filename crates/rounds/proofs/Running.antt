@@ -6,7 +6,7 @@ use Rattle.game.specs.promise.Tables.{game_of, Tables, vertices}
 use Rattle.storage.specs.promise.Answer.{mark_of, move_of}
 use Rattle.justification.proofs.Finished.{finished}
 use Rattle.space.specs.parts.Work.{section}
-use Rattle.space.specs.parts.Desk.{Desk}
+use Rattle.space.specs.declared.desk.Desk.{Desk}
 use Rattle.waiting.specs.parts.Open.{AllSettled}
 use Rattle.levels.specs.parts.Levels.{settled_of}
 use Rattle.levels.proofs.Flags.{flag_settled}

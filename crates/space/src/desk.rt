@@ -1,82 +1,104 @@
-// The engine's own desk: for each priority the first and the last of its waiting line, who waits, the levels, and the pile of attraction. It is one
-// list because the proof of a call grows with the lists that are lent to it.
+// The engine's own desk: for each priority the first and the last of its waiting line, who waits, the levels, and the pile of attraction.
 ghost use Rattle.std.specs.Prelude.{◌≡◌, ◌<◌, get_or};
-ghost use Rattle.space.specs.parts.Desk.{Laid, desk_of, put_first, put_last, put_waits, put_level, put_piled};
+ghost use Rattle.space.specs.parts.Desk.{Blank, put_first, put_last, put_waits, put_level, put_piled};
 
-// How many cells it has.
-pub const DESK: usize = 6656;
-
-// The first of a priority's waiting line.
-pub fn first(k: usize, desk: &[u16]) -> u16
-    requires { Laid (desk_of desk.now) × (k < 256) }
-    ensures { result ≡ get_or (desk_of desk.now).firsts k 0 }
-{
-    desk[k]
+// A pair of methods for each field, since there is no generic over a field; numbers for who waits and for nobody, since that is what a cell holds.
+#[derive(Drop)]
+pub struct Desk {
+    pub firsts: [u16; 256],
+    pub lasts: [u16; 256],
+    // Whether a vertex waits: 0 no, 1 yes, 2 yes and he is new.
+    pub waiting: [u16; 2048],
+    pub levels: [u16; 2048],
+    pub pile: [u16; 2048],
 }
 
-pub fn set_first(k: usize, x: u16, desk: &mut [u16])
-    requires { Laid (desk_of desk.old) × (k < 256) }
-    ensures { desk_of desk.new ≡ put_first k x (desk_of desk.old) }
-{
-    desk[k] = x;
-}
+impl Desk {
+    // All zero: vertex 0 stands first and last in every line, and nobody waits.
+    pub fn blank() -> Desk
+        ensures { Blank result }
+    {
+        Desk {
+            firsts: [0; 256],
+            lasts: [0; 256],
+            waiting: [0; 2048],
+            levels: [0; 2048],
+            pile: [0; 2048],
+        }
+    }
 
-// The last of it.
-pub fn last(k: usize, desk: &[u16]) -> u16
-    requires { Laid (desk_of desk.now) × (k < 256) }
-    ensures { result ≡ get_or (desk_of desk.now).lasts k 0 }
-{
-    desk[256 + k]
-}
+    // The first of a priority's waiting line.
+    pub fn first(&self, k: usize) -> u16
+        requires { k < 256 }
+        ensures { result ≡ get_or self.now.firsts k 0 }
+    {
+        self.firsts[k]
+    }
 
-pub fn set_last(k: usize, x: u16, desk: &mut [u16])
-    requires { Laid (desk_of desk.old) × (k < 256) }
-    ensures { desk_of desk.new ≡ put_last k x (desk_of desk.old) }
-{
-    desk[256 + k] = x;
-}
+    pub fn set_first(&mut self, k: usize, x: u16)
+        requires { k < 256 }
+        ensures { self.new ≡ put_first k x self.old }
+    {
+        self.firsts[k] = x;
+    }
 
-// Whether a vertex waits: 0 no, 1 yes, 2 yes and he is new.
-pub fn waits(v: usize, desk: &[u16]) -> u16
-    requires { Laid (desk_of desk.now) × (v < 2048) }
-    ensures { result ≡ get_or (desk_of desk.now).waiting v 0 }
-{
-    desk[512 + v]
-}
+    // The last of it.
+    pub fn last(&self, k: usize) -> u16
+        requires { k < 256 }
+        ensures { result ≡ get_or self.now.lasts k 0 }
+    {
+        self.lasts[k]
+    }
 
-pub fn set_waits(v: usize, x: u16, desk: &mut [u16])
-    requires { Laid (desk_of desk.old) × (v < 2048) }
-    ensures { desk_of desk.new ≡ put_waits v x (desk_of desk.old) }
-{
-    desk[512 + v] = x;
-}
+    pub fn set_last(&mut self, k: usize, x: u16)
+        requires { k < 256 }
+        ensures { self.new ≡ put_last k x self.old }
+    {
+        self.lasts[k] = x;
+    }
 
-// A vertex's level.
-pub fn level(v: usize, desk: &[u16]) -> u16
-    requires { Laid (desk_of desk.now) × (v < 2048) }
-    ensures { result ≡ get_or (desk_of desk.now).levels v 0 }
-{
-    desk[2560 + v]
-}
+    // Whether a vertex waits: 0 no, 1 yes, 2 yes and he is new.
+    pub fn waits(&self, v: usize) -> u16
+        requires { v < 2048 }
+        ensures { result ≡ get_or self.now.waiting v 0 }
+    {
+        self.waiting[v]
+    }
 
-pub fn set_level(v: usize, x: u16, desk: &mut [u16])
-    requires { Laid (desk_of desk.old) × (v < 2048) }
-    ensures { desk_of desk.new ≡ put_level v x (desk_of desk.old) }
-{
-    desk[2560 + v] = x;
-}
+    pub fn set_waits(&mut self, v: usize, x: u16)
+        requires { v < 2048 }
+        ensures { self.new ≡ put_waits v x self.old }
+    {
+        self.waiting[v] = x;
+    }
 
-// A place of the pile.
-pub fn piled(i: usize, desk: &[u16]) -> u16
-    requires { Laid (desk_of desk.now) × (i < 2048) }
-    ensures { result ≡ get_or (desk_of desk.now).pile i 0 }
-{
-    desk[4608 + i]
-}
+    // A vertex's level.
+    pub fn level(&self, v: usize) -> u16
+        requires { v < 2048 }
+        ensures { result ≡ get_or self.now.levels v 0 }
+    {
+        self.levels[v]
+    }
 
-pub fn set_piled(i: usize, x: u16, desk: &mut [u16])
-    requires { Laid (desk_of desk.old) × (i < 2048) }
-    ensures { desk_of desk.new ≡ put_piled i x (desk_of desk.old) }
-{
-    desk[4608 + i] = x;
+    pub fn set_level(&mut self, v: usize, x: u16)
+        requires { v < 2048 }
+        ensures { self.new ≡ put_level v x self.old }
+    {
+        self.levels[v] = x;
+    }
+
+    // A place of the pile.
+    pub fn piled(&self, i: usize) -> u16
+        requires { i < 2048 }
+        ensures { result ≡ get_or self.now.pile i 0 }
+    {
+        self.pile[i]
+    }
+
+    pub fn set_piled(&mut self, i: usize, x: u16)
+        requires { i < 2048 }
+        ensures { self.new ≡ put_piled i x self.old }
+    {
+        self.pile[i] = x;
+    }
 }

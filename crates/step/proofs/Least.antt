@@ -10,7 +10,7 @@ use Rattle.storage.specs.promise.Answer.{mark_of, move_of}
 use Rattle.justification.specs.parts.Safe.{Eligible}
 use Rattle.justification.proofs.Eligible.{least_eligible}
 use Rattle.space.specs.parts.Work.{section}
-use Rattle.space.specs.parts.Desk.{Desk}
+use Rattle.space.specs.declared.desk.Desk.{Desk}
 use Rattle.waiting.specs.parts.Open.{LeastOpen, NoneBelow}
 use Rattle.levels.specs.parts.Levels.{settled_of}
 use Rattle.levels.proofs.Flags.{flag_settled, settled_flag}

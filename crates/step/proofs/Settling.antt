@@ -7,7 +7,7 @@ use native.Mathlib.Omega.{arith}
 use lib.ListN.{length, get_or}
 use Rattle.player.specs.promise.Player.{parity_of}
 use Rattle.storage.specs.parts.Answers.{MoveSet}
-use Rattle.space.specs.parts.Desk.{Desk}
+use Rattle.space.specs.declared.desk.Desk.{Desk}
 use Rattle.levels.specs.parts.Levels.{LevelSet, LevelsOnly}
 use Rattle.turn.specs.parts.Keeping.{Keepable}
 use Rattle.space.specs.parts.Work.{FlagSet}

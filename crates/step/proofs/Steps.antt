@@ -20,7 +20,8 @@ use Rattle.justification.proofs.Levels.{kept_levelled, turned_levelled}
 use Rattle.justification.proofs.Started.{never_reopened}
 use Rattle.lists.specs.parts.Cells.{Filled}
 use Rattle.space.specs.parts.Work.{section}
-use Rattle.space.specs.parts.Desk.{Desk, Laid}
+use Rattle.space.specs.declared.desk.Desk.{Desk}
+use Rattle.space.specs.parts.Desk.{Laid}
 use Rattle.waiting.specs.parts.Lines.{Covered}
 use Rattle.waiting.specs.parts.Moves.{LinesOf}
 use Rattle.waiting.proofs.Standings.{standing_lines}

@@ -2,12 +2,13 @@
 #![tactic(auto)]
 
 ghost use Rattle.std.specs.Prelude.{length};
-ghost use Rattle.space.specs.parts.Desk.{desk_of};
 ghost use Rattle.turn.specs.parts.Turning.{Turnable};
 ghost use Rattle.step.specs.parts.Outcome.{SteppedIn};
 
 use line::Line;
 use player::Player;
+use preds::Predecessors;
+use space::desk::Desk;
 use storage::Winner;
 use turn::keep::keep;
 use turn::turn;
@@ -18,15 +19,14 @@ pub fn step(
     line: Line,
     low: usize,
     priorities: &[u8],
-    ins: &[u16],
-    froms: &[u16],
-    desk: &mut [u16],
+    preds: &Predecessors,
+    desk: &mut Desk,
     winners: &mut [Winner],
     moves: &mut [u16],
     work: &mut [u16],
 ) -> usize
-    requires { Turnable (length priorities.now) v priorities.now ins.now froms.now (desk_of desk.old) winners.old moves.old work.old }
-    ensures { SteppedIn (length priorities.now) v line.winner line.to line.level low priorities.now ins.now froms.now (desk_of desk.old) winners.old moves.old work.old (desk_of desk.new) winners.new moves.new work.new result }
+    requires { Turnable (length priorities.now) v priorities.now preds.now.ins preds.now.froms desk.old winners.old moves.old work.old }
+    ensures { SteppedIn (length priorities.now) v line.winner line.to line.level low priorities.now preds.now.ins preds.now.froms desk.old winners.old moves.old work.old desk.new winners.new moves.new work.new result }
 {
     let own = priorities[v];
     if line.winner == u8::from(Player::of_priority(own)) {
@@ -35,6 +35,6 @@ pub fn step(
     }
     let n = priorities.len();
     turn(
-        n, v, line, low, priorities, ins, froms, desk, winners, moves, work,
+        n, v, line, low, priorities, preds, desk, winners, moves, work,
     )
 }

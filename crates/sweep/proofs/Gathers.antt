@@ -7,7 +7,8 @@ use native.Mathlib.Decide.{ℕ_discrete}
 use native.Mathlib.Omega.{arith}
 use lib.ListN.{get_or}
 use Rattle.space.specs.parts.Work.{nil, section, Cell}
-use Rattle.space.specs.parts.Desk.{Desk, Laid}
+use Rattle.space.specs.declared.desk.Desk.{Desk}
+use Rattle.space.specs.parts.Desk.{Laid}
 use Rattle.waiting.specs.parts.Lines.{Waits}
 use Rattle.waiting.specs.parts.Moves.{LinesOf, Standing}
 use Rattle.pick.specs.parts.Order.{Frontable, Dropped}

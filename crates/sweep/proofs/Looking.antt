@@ -7,7 +7,8 @@ use native.Mathlib.Decide.{ℕ_discrete}
 use native.Mathlib.Omega.{arith}
 use lib.ListN.{get_or, set}
 use lib.Seq.{get_or-set_same, get_or-set_other}
-use Rattle.space.specs.parts.Desk.{Desk, Laid, put_waits}
+use Rattle.space.specs.declared.desk.Desk.{Desk}
+use Rattle.space.specs.parts.Desk.{Laid, put_waits}
 use Rattle.space.proofs.Desks.{laid_waits}
 use Rattle.pile.specs.parts.Pile.{PushedOn}
 use Rattle.sweep.specs.parts.Gathering.{Lookable, SameWait, Looked}

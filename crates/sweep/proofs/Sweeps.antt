@@ -2,7 +2,7 @@
 use Prim.Native.Nat.{ℕ}
 use mathlib.Core.List.{List}
 use Rattle.game.specs.promise.Tables.{Tables, vertices}
-use Rattle.space.specs.parts.Desk.{Desk}
+use Rattle.space.specs.declared.desk.Desk.{Desk}
 use Rattle.waiting.proofs.Standings.{standing_lines}
 use Rattle.step.proofs.Moving.{moved_more, moved_lines}
 use Rattle.draw.specs.parts.Drawing.{Drawn}

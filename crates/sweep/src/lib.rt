@@ -4,29 +4,31 @@
 ghost use Rattle.std.specs.Prelude.{◌<◌, ◌≤◌};
 ghost use Rattle.std.specs.Option.{IfSome};
 ghost use Rattle.game.specs.promise.Lent.{asked, lent};
-ghost use Rattle.space.specs.parts.Desk.{Laid, desk_of};
+ghost use Rattle.space.specs.parts.Desk.{Laid};
 ghost use Rattle.pick.specs.parts.Order.{Frontable};
 ghost use Rattle.draw.specs.parts.Drawing.{Drainable, Drawn};
 ghost use Rattle.sweep.specs.parts.Gathering.{Gathered, Lookable, Looked};
 
 use attract::{Left, drain};
 use game::NONE;
+use game::tables::Tables;
 use game::vertex::wide;
 use pick::front;
 use pile::push;
-use space::desk::{first, set_waits, waits};
+use preds::Predecessors;
+use space::desk::Desk;
 use space::work::{behind, flag};
 use storage::Winner;
 
 // x, who stands in a line, goes on the pile if he is new there and open; he is new no longer.
-fn look(n: usize, x: usize, desk: &mut [u16], work: &[u16], tail: usize) -> usize
-    requires { Lookable n x (desk_of desk.old) work.now tail }
-    ensures { Looked x (desk_of desk.old) tail (desk_of desk.new) result }
+fn look(n: usize, x: usize, desk: &mut Desk, work: &[u16], tail: usize) -> usize
+    requires { Lookable n x desk.old work.now tail }
+    ensures { Looked x desk.old tail desk.new result }
 {
-    if waits(x, desk) != 2 {
+    if desk.waits(x) != 2 {
         return tail;
     }
-    set_waits(x, 1, desk);
+    desk.set_waits(x, 1);
     if flag(n, x, work) == 0 {
         return tail;
     }
@@ -34,9 +36,9 @@ fn look(n: usize, x: usize, desk: &mut [u16], work: &[u16], tail: usize) -> usiz
 }
 
 // The pile of those who are new in a line and open. No line has more than n.
-fn gather(n: usize, priority: usize, desk: &mut [u16], work: &[u16]) -> usize
-    requires { Frontable n priority (desk_of desk.old) work.now }
-    ensures { Gathered n (desk_of desk.old) work.now (desk_of desk.new) result }
+fn gather(n: usize, priority: usize, desk: &mut Desk, work: &[u16]) -> usize
+    requires { Frontable n priority desk.old work.now }
+    ensures { Gathered n desk.old work.now desk.new result }
 {
     let Some(mut x) = front(n, priority, desk, work) else {
         return 0;
@@ -54,33 +56,29 @@ fn gather(n: usize, priority: usize, desk: &mut [u16], work: &[u16]) -> usize
 }
 
 // The highest line below p that has somebody.
-fn below(desk: &[u16], p: usize) -> Option<usize>
-    requires { Laid (desk_of desk.now) × (p ≤ 256) }
+fn below(desk: &Desk, p: usize) -> Option<usize>
+    requires { Laid desk.now × (p ≤ 256) }
     ensures { IfSome result (λ k. k < p) }
 {
-    (0..p).rev().find(|&k| first(k, desk) != NONE)
+    (0..p).rev().find(|&k| desk.first(k) != NONE)
 }
 
 // From the priority below `top` down to 0: attracts from the new open vertices, and nothing below their priority is leaned on.
 pub fn sweep(
     top: usize,
     budget: usize,
-    owners: &[u8],
-    priorities: &[u8],
-    starts: &[u16],
-    targets: &[u16],
-    ins: &[u16],
-    froms: &[u16],
-    desk: &mut [u16],
+    tables: Tables,
+    preds: &Predecessors,
+    desk: &mut Desk,
     winners: &mut [Winner],
     moves: &mut [u16],
     work: &mut [u16],
 ) -> Left
-    requires { Drainable 0 (asked owners priorities starts targets) ins.now froms.now (desk_of desk.old) winners.old moves.old work.old }
+    requires { Drainable 0 (asked tables) preds.now.ins preds.now.froms desk.old winners.old moves.old work.old }
     ensures left { result.budget ≤ budget }
-    ensures moved { Drawn 0 (lent owners priorities starts targets) ins.now froms.now winners.old moves.old work.old (desk_of desk.new) winners.new moves.new work.new }
+    ensures moved { Drawn 0 (lent tables) preds.now.ins preds.now.froms winners.old moves.old work.old desk.new winners.new moves.new work.new }
 {
-    let n = owners.len();
+    let n = tables.owners.len();
     let mut left = budget;
     let mut high = 0;
     let mut p = top.min(256);
@@ -88,8 +86,7 @@ pub fn sweep(
         p = k;
         let tail = gather(n, p, desk, work);
         let drained = drain(
-            tail, p as u16, left, owners, priorities, starts, targets, ins, froms, desk, winners,
-            moves, work,
+            tail, p as u16, left, tables, preds, desk, winners, moves, work,
         );
         left = drained.budget;
         high = high.max(drained.top);

@@ -1,4 +1,5 @@
-// Appending to a text in a lent slice: each function takes the place at which it begins and returns the place after it.
+// Appending to a text in a lent slice: each function takes the place at which it begins and returns the place after it. No struct of the two: it would
+// hold a `&mut`, and every contract would have to say that the reference stays.
 #![tactic(auto)]
 
 ghost use Rattle.std.specs.Prelude.{[], ◌∷◌, ◌++◌};

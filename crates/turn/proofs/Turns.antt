@@ -9,7 +9,7 @@ use lib.ListN.{length, get_or}
 use Rattle.storage.specs.promise.Answer.{mark_room}
 use Rattle.storage.specs.parts.Answers.{MarkSet, MoveSet}
 use Rattle.storage.proofs.Stores.{has_room, still_stored}
-use Rattle.space.specs.parts.Desk.{Desk}
+use Rattle.space.specs.declared.desk.Desk.{Desk}
 use Rattle.winning.specs.promise.Walk.{Walk}
 use Rattle.winning.proofs.Walks.{follow}
 use Rattle.reach.specs.parts.Closure.{Allowed, ClosedFrom}

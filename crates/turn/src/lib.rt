@@ -1,13 +1,14 @@
 // Turning a vertex to the opponent: what leans on it is opened again.
 #![tactic(auto)]
 
-ghost use Rattle.space.specs.parts.Desk.{desk_of};
 ghost use Rattle.turn.specs.parts.Turning.{Turnable, TurnedIn};
 
 use crate::keep::keep;
 use line::Line;
+use preds::Predecessors;
 use reach::closure::{clear, close, seed};
 use reopen::reopen;
+use space::desk::Desk;
 use storage::Winner;
 use storage::answer::set_mark;
 
@@ -20,18 +21,17 @@ pub fn turn(
     line: Line,
     low: usize,
     priorities: &[u8],
-    ins: &[u16],
-    froms: &[u16],
-    desk: &mut [u16],
+    preds: &Predecessors,
+    desk: &mut Desk,
     winners: &mut [Winner],
     moves: &mut [u16],
     work: &mut [u16],
 ) -> usize
-    requires { Turnable n v priorities.now ins.now froms.now (desk_of desk.old) winners.old moves.old work.old }
-    ensures { TurnedIn n v line.winner line.to line.level low priorities.now ins.now froms.now (desk_of desk.old) winners.old moves.old work.old (desk_of desk.new) winners.new moves.new work.new result }
+    requires { Turnable n v priorities.now preds.now.ins preds.now.froms desk.old winners.old moves.old work.old }
+    ensures { TurnedIn n v line.winner line.to line.level low priorities.now preds.now.ins preds.now.froms desk.old winners.old moves.old work.old desk.new winners.new moves.new work.new result }
 {
     let one = seed(n, v, work, 0);
-    let tail = close(n, ins, froms, 0, moves, work, one);
+    let tail = close(n, preds, 0, moves, work, one);
     let least = reopen(n, priorities, desk, winners, work, tail, low);
     clear(n, work, tail);
     set_mark(winners, v, line.winner);

@@ -14,7 +14,6 @@ use Rattle.storage.specs.promise.Answer.{mark_of, move_of}
 use Rattle.storage.specs.promise.Lent.{Lent}
 use Rattle.storage.proofs.Stores.{marks_players}
 use Rattle.storage.proofs.Zeros.{zeroed_more}
-use Rattle.game.proofs.WellFormed.{well_formed}
 use Rattle.winning.specs.promise.Faults.{Accepted}
 use Rattle.winning.proofs.Accepted.{accepted_right}
 use Rattle.checker.specs.parts.Judging.{JudgeableIn, Judged}
@@ -41,19 +40,16 @@ module _ (i : Input) (l : Lent) where
         leaves = record { zeroed = λ j. absurd (not_judging i l f j); same = λ _. refl };
       })
 
-  module _ (bytes : (v : ℕ) → get_or i.first.priorities v 0 < 256) (n : None (test_rows i l)) where
+  module _ (n : None (test_rows i l)) (formed : WellFormed i.first × WellFormed i.second) where
     free : Free i l
     free = free_of_none i l n
-
-    formed : WellFormed i.first
-    formed = well_formed i.first bytes free.first
 
     pub judging_asks : {ins froms : List ℕ} → length ins ≡ 2049 → length froms ≡ 16384 → JudgeableIn i.first i.old ins froms l.work
     judging_asks x y =
         record {
           passed =
               record {
-                answered = record { well_formed = formed; stored = record { cells = free.fit.0 }; moves_long = free.fit.1.0 };
+                answered = record { well_formed = formed.0; stored = record { cells = free.fit.0 }; moves_long = free.fit.1.0 };
                 work_long = free.fit.1.1.1.1.0;
               };
           ins_long = x;
@@ -77,11 +73,11 @@ module _ (i : Input) (l : Lent) where
           let n = subst (λ (v : Result Unit Refusal). Gives (judge_rows i.first i.old) (tested_said v)) e j.gives in
           record { players = marks_players n.0; none = n.1 }
 
-      pub redoing_asks : {ins froms : List ℕ} → ((v : ℕ) → get_or i.second.priorities v 0 < 256) → v ≡ Ok tt → length ins ≡ 2049 → length froms ≡ 16384 → Redoable i (with_work l work₁) ins froms
-      redoing_asks bytes2 e x y =
+      pub redoing_asks : {ins froms : List ℕ} → v ≡ Ok tt → length ins ≡ 2049 → length froms ≡ 16384 → Redoable i (with_work l work₁) ins froms
+      redoing_asks e x y =
           let f = free.fit in
           record {
-            paired = record { first = formed; second = well_formed i.second bytes2 free.second; size = free.size };
+            paired = record { first = formed.0; second = formed.1; size = free.size };
             fit = (f.0, (f.1.0, (f.1.1.0, (f.1.1.1.0, (j.zeroed.long ∙ f.1.1.1.1.0, tt)))));
             accepted = accepted e;
             blank = record { all = j.zeroed.zero };

@@ -10,6 +10,7 @@ ghost use Rattle.writer.specs.parts.Filling.{OtherLength, Fillable};
 
 use encoding::block;
 use format::extent::all_blocks;
+use game::tables::Tables;
 use refusal::{FileFault, Kind, Refusal, refuse};
 use tables::test_tables;
 
@@ -21,32 +22,25 @@ fn output(n: usize, m: usize, long: usize) -> Option<usize>
 }
 
 // Each block is lent the part of the output that is its own.
-fn fill(owners: &[u8], priorities: &[u8], starts: &[u16], targets: &[u16], file: &mut [u8])
-    requires { Fillable (asked owners priorities starts targets) file.old }
-    ensures { file.new ≡ file_of (plain (lent owners priorities starts targets)) }
+fn fill(tables: Tables, file: &mut [u8])
+    requires { Fillable (asked tables) file.old }
+    ensures { file.new ≡ file_of (plain (lent tables)) }
 {
     let blocks = file.len() / 512;
     for b in 0..blocks {
         let from = 512 * b;
         let part = &mut file[from..from + 512];
-        block(owners, priorities, starts, targets, b, part);
+        block(tables, b, part);
     }
 }
 
 // 1 to 7, then 46: the output is written only once every refusal is excluded. Gives how many bytes the file has.
-#[tactic(auto, using(crate::proofs::Lengths::lowest_46))]
-pub fn write(
-    owners: &[u8],
-    priorities: &[u8],
-    starts: &[u16],
-    targets: &[u16],
-    file: &mut [u8],
-) -> Result<usize, Refusal>
-    ensures { Writes (lent owners priorities starts targets) file.old file.new (written_said result) }
+pub fn write(tables: Tables, file: &mut [u8]) -> Result<usize, Refusal>
+    ensures { Writes (lent tables) file.old file.new (written_said result) }
 {
-    test_tables(owners, priorities, starts, targets)?;
-    let found = output(owners.len(), targets.len(), file.len());
+    test_tables(tables)?;
+    let found = output(tables.owners.len(), tables.targets.len(), file.len());
     refuse(found, Kind::Filed(FileFault::Output))?;
-    fill(owners, priorities, starts, targets, file);
+    fill(tables, file);
     Ok(file.len())
 }

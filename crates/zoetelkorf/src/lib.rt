@@ -1,13 +1,15 @@
-// The C interface: what a Rust or C program links. Each function hands on to the entry point and gives its number and value.
+// The C interface: what a Rust or C program links. Each function hands on to the entry point and gives its number and value. Five functions of one
+// shape, with four slices for a game and numbers for what is said, because that is what C links.
 #![tactic(auto)]
 
 ghost use Rattle.game.specs.promise.Tables.{tables_of};
-ghost use Rattle.game.specs.promise.Lent.{lent, written};
+ghost use Rattle.game.specs.promise.Lent.{written};
 ghost use Rattle.storage.specs.promise.Lent.{claimed, given, left};
 ghost use Rattle.inputs.specs.promise.Inputs.{input_of};
 ghost use Rattle.zoetelkorf.specs.promise.Calls.{ChecksBy, SolvesBy, UpdatesBy, ReadsBy, WritesBy};
 
 use checker::check;
+use game::tables::Tables;
 use housefile::reader::read;
 use solver::solve;
 use storage::Winner;
@@ -26,9 +28,15 @@ pub extern "C" fn zoetelkorf_check(
     work: &mut [u16],
     value: &mut u64,
 ) -> u64
-    ensures { ChecksBy (lent owners priorities starts targets) (claimed winners moves) work.old work.new result value.new }
+    ensures { ChecksBy (tables_of owners.now priorities.now starts.now targets.now) (claimed winners moves) work.old work.new result value.new }
 {
-    match check(owners, priorities, starts, targets, winners, moves, work) {
+    let tables = Tables {
+        owners,
+        priorities,
+        starts,
+        targets,
+    };
+    match check(tables, winners, moves, work) {
         Ok(()) => {
             *value = 0;
             0
@@ -48,9 +56,15 @@ pub extern "C" fn zoetelkorf_solve(
     work: &mut [u16],
     value: &mut u64,
 ) -> u64
-    ensures { SolvesBy (lent owners priorities starts targets) (given winners moves work) (left winners moves work) result value.new }
+    ensures { SolvesBy (tables_of owners.now priorities.now starts.now targets.now) (given winners moves work) (left winners moves work) result value.new }
 {
-    match solve(owners, priorities, starts, targets, winners, moves, work) {
+    let tables = Tables {
+        owners,
+        priorities,
+        starts,
+        targets,
+    };
+    match solve(tables, winners, moves, work) {
         Ok(()) => {
             *value = 0;
             0
@@ -76,23 +90,21 @@ pub extern "C" fn zoetelkorf_update(
     work: &mut [u16],
     value: &mut u64,
 ) -> u64
-    ensures { UpdatesBy (input_of (lent owners priorities starts targets) (lent owners2 priorities2 starts2 targets2) (claimed old_winners old_moves)) (given winners moves work) (left winners moves work) result value.new }
+    ensures { UpdatesBy (input_of (tables_of owners.now priorities.now starts.now targets.now) (tables_of owners2.now priorities2.now starts2.now targets2.now) (claimed old_winners old_moves)) (given winners moves work) (left winners moves work) result value.new }
 {
-    let updated = update(
+    let first = Tables {
         owners,
         priorities,
         starts,
         targets,
-        owners2,
-        priorities2,
-        starts2,
-        targets2,
-        old_winners,
-        old_moves,
-        winners,
-        moves,
-        work,
-    );
+    };
+    let second = Tables {
+        owners: owners2,
+        priorities: priorities2,
+        starts: starts2,
+        targets: targets2,
+    };
+    let updated = update(first, second, old_winners, old_moves, winners, moves, work);
     match updated {
         Ok(count) => {
             *value = count as u64;
@@ -131,9 +143,15 @@ pub extern "C" fn zoetelkorf_write(
     file: &mut [u8],
     value: &mut u64,
 ) -> u64
-    ensures { WritesBy (lent owners priorities starts targets) file.old file.new result value.new }
+    ensures { WritesBy (tables_of owners.now priorities.now starts.now targets.now) file.old file.new result value.new }
 {
-    match write(owners, priorities, starts, targets, file) {
+    let tables = Tables {
+        owners,
+        priorities,
+        starts,
+        targets,
+    };
+    match write(tables, file) {
         Ok(bytes) => {
             *value = bytes as u64;
             0

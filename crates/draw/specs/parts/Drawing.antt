@@ -2,7 +2,7 @@
 use Rattle.std.specs.Prelude.{ℕ, ◌<◌, List}
 use Rattle.game.specs.promise.Game.{Edge}
 use Rattle.game.specs.promise.Tables.{game_of, Tables, vertices}
-use Rattle.space.specs.parts.Desk.{Desk}
+use Rattle.space.specs.declared.desk.Desk.{Desk}
 use Rattle.step.specs.parts.Stepping.{Engine, Moved}
 use Rattle.pile.specs.parts.Pile.{Piled}
 

@@ -6,6 +6,7 @@ use Rattle.encoding.proofs.block.Goals as goal
 
 pub returns : goal.returns
 returns c =
-    let a = c.args in
-    let f = plain (asked a.owners a.priorities a.starts a.targets) in
-    block_put f _ (body_put f _ _ _ c.kind_of.ensures c.used_of-used.ensures c.requires.long c.name.ensures c.payload.ensures c.clear.ensures) c.seal.ensures
+    let f = plain (asked c.args.tables) in
+    let kind = rw c.vertices-n.ensures at c.kind_of.ensures in
+    let used = rw c.vertices-n.ensures at c.used_of-used.ensures in
+    block_put f _ (body_put f _ _ _ kind used c.requires.long c.name.ensures c.payload.ensures c.clear.ensures) c.seal.ensures

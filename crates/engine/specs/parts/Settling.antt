@@ -3,7 +3,8 @@ use Rattle.std.specs.Prelude.{ℕ, ◌≡◌, List}
 use Rattle.game.specs.promise.Tables.{game_of, Tables}
 use Rattle.lists.specs.parts.Cells.{Filled}
 use Rattle.space.specs.parts.Work.{nil}
-use Rattle.space.specs.parts.Desk.{Desk, Laid}
+use Rattle.space.specs.declared.desk.Desk.{Desk}
+use Rattle.space.specs.parts.Desk.{Laid}
 use Rattle.preds.specs.parts.Preds.{Preds}
 use Rattle.step.specs.parts.State.{State}
 

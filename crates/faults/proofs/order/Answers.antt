@@ -1,20 +1,11 @@
 -- `faults::order` meets its contract. Row 7 is a scan of the vertices; a place in a stretch becomes a place in the targets (Ordered).
 use borrow.Author.Rules.{rules}
-use Rattle.faults.proofs.Ordered.{order_found, order_within, order_more, order_none}
+use Rattle.faults.proofs.Ordered.{order_found, order_more, order_none}
 use Rattle.game.proofs.Starts.{stretch_of}
-use Rattle.refusal.proofs.Scans.{scan_none}
-use native.Mathlib.Omega.{arith}
 use Rattle.faults.proofs.order.Goals as goal
-
-pub loop-v-init : goal.loop-v-init
-loop-v-init c = scan_none
 
 pub successors-requires : goal.successors-requires
 successors-requires c = stretch_of _ _ _ c.requires _ (search rules)
-
-pub overflow_add-result : goal.overflow_add-result
-overflow_add-result c =
-    omega (arith, order_within _ _ _ c.requires _ _ _ _ _ (search rules) c.successors.ensures c.in-Some.is c.descent.ensures c.wide.ensures, c.well_formed)
 
 pub returns-in-Some : goal.returns-in-Some
 returns-in-Some c =

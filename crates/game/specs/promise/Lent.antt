@@ -2,6 +2,7 @@
 use Rattle.std.specs.Prelude.{ℕ, ◌≡◌, List, [], ◌∷◌}
 use Rattle.std.specs.Borrow.{Bor, MutBor}
 use denote.Triple.Both.{Both}
+use Rattle.game.specs.declared.tables.Tables as stored
 use Rattle.game.specs.promise.Tables.{Tables, tables_of}
 
 -- how long a lent list is, and how long it should be
@@ -23,13 +24,13 @@ pub record Fault8 (l : List Sized) (x : ℕ) : Type 0 where
 abbrev pub sized : (long due : ℕ) → Sized
 sized long due = record { long = long; due = due }
 
--- tables behind shared references, that a `requires` speaks of; behind mutable ones `tables_of` has them, with `.old`
-abbrev pub asked : (owners priorities starts targets : Bor (List ℕ)) → Tables
-asked owners priorities starts targets = tables_of owners.now priorities.now starts.now targets.now
+-- the tables that a `requires` speaks of; behind four mutable references `tables_of` has them, with `.old`
+abbrev pub asked : stored.Tables → Tables
+asked t = tables_of t.owners.now t.priorities.now t.starts.now t.targets.now
 
--- tables that an `ensures` speaks of: as they were at entry
-abbrev pub lent : {A B C D : Type 0} → Both (Bor (List ℕ)) A → Both (Bor (List ℕ)) B → Both (Bor (List ℕ)) C → Both (Bor (List ℕ)) D → Tables
-lent owners priorities starts targets = asked owners.entry priorities.entry starts.entry targets.entry
+-- the tables that an `ensures` speaks of: as they were at entry
+abbrev pub lent : {A : Type 0} → Both stored.Tables A → Tables
+lent t = asked t.entry
 
 -- tables that a call has written: as they are at exit
 abbrev pub written : {A B C D : Type 0} → Both A (MutBor (List ℕ)) → Both B (MutBor (List ℕ)) → Both C (MutBor (List ℕ)) → Both D (MutBor (List ℕ)) → Tables

@@ -3,5 +3,5 @@ use borrow.Author.Rules.{rules}
 use Rattle.inputs.proofs.Rows.{second_said}
 use Rattle.inputs.proofs.test_second.Goals as goal
 
-pub returns : goal.returns
-returns c = second_said _ _ _ _ (λ q r p. record { kind = search rules; place = search rules }) c.test_tables.ensures c.map_err.ensures.cases
+pub returns-clause-gives : goal.returns-clause-gives
+returns-clause-gives c = second_said _ _ _ _ (λ q r p. record { kind = search rules; place = search rules }) c.test_tables.ensures.gives c.map_err.ensures.cases

@@ -1,7 +1,8 @@
 -- Levels and floors, as they are stored. The levels stand on the desk, the flags in section 0 of the work space.
 use Rattle.std.specs.Prelude.{ℕ, ◌-◌, ◌*◌, ◌<◌, ◌≤◌, ◌≡◌, ◌≢◌, List, length, get_or}
 use Rattle.space.specs.parts.Work.{section}
-use Rattle.space.specs.parts.Desk.{Desk, Laid}
+use Rattle.space.specs.declared.desk.Desk.{Desk}
+use Rattle.space.specs.parts.Desk.{Laid}
 
 -- a vertex is settled where its flag is 0
 unfoldable pub settled_of : ℕ → List ℕ → ℕ → ℕ

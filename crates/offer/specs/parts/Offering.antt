@@ -5,7 +5,8 @@ use Rattle.game.specs.promise.Game.{Edge}
 use Rattle.game.specs.promise.Tables.{game_of, WellFormed, Tables, vertices}
 use Rattle.storage.specs.promise.Answer.{mark_of}
 use Rattle.storage.specs.parts.Answers.{Stored}
-use Rattle.space.specs.parts.Desk.{Desk, Laid}
+use Rattle.space.specs.declared.desk.Desk.{Desk}
+use Rattle.space.specs.parts.Desk.{Laid}
 use Rattle.justification.specs.parts.Step.{TestGives}
 use Rattle.line.specs.declared.Line.{Line}
 use Rattle.levels.specs.parts.Levels.{settled_of, FloorOf}

@@ -1,6 +1,6 @@
 -- What the pieces of a block ask, and which bytes they put, by place in the block.
 use Rattle.std.specs.Prelude.{ℕ, zero, suc, ◌+◌, ◌-◌, ◌/◌, ◌%◌, ◌<◌, ◌≤◌, ◌≡◌, List, length, get_or}
-use Rattle.game.specs.promise.Tables.{Tables}
+use Rattle.game.specs.promise.Tables.{Tables, vertices}
 use Rattle.format.specs.promise.Format.{Filing, low_high, head_byte, vertex_byte}
 
 -- two numbers, each of which two bytes hold, and room for a block
@@ -10,11 +10,11 @@ pub record Words (x y : ℕ) (part : List ℕ) : Type 0 where
   pub long : length part ≡ 512
 
 -- vertices from the first on, with room for a block
-pub record Run (owners priorities starts : List ℕ) (first : ℕ) (part : List ℕ) : Type 0 where
+pub record Run (t : Tables) (first : ℕ) (part : List ℕ) : Type 0 where
   pub low : first < 65536
-  pub level : length priorities ≡ length owners
-  pub bounds : length starts ≡ length owners + 1
-  pub onward : (v : ℕ) → v < length owners → get_or starts v 0 ≤ get_or starts (v + 1) 0
+  pub level : length t.priorities ≡ vertices t
+  pub bounds : length t.starts ≡ vertices t + 1
+  pub onward : (v : ℕ) → v < vertices t → get_or t.starts v 0 ≤ get_or t.starts (v + 1) 0
   pub long : length part ≡ 512
 
 -- the bytes before the payload: number, kind, zero, used count

@@ -1,6 +1,7 @@
 -- The pile: its first `tail` cells hold vertices.
 use Rattle.std.specs.Prelude.{ℕ, ◌<◌, ◌≤◌, ◌≡◌, List, get_or}
-use Rattle.space.specs.parts.Desk.{Desk, Laid}
+use Rattle.space.specs.declared.desk.Desk.{Desk}
+use Rattle.space.specs.parts.Desk.{Laid}
 
 -- a pile of vertices below n, in a list of 2,048
 pub record Piled (n : ℕ) (pile : List ℕ) (tail : ℕ) : Type 0 where

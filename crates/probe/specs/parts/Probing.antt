@@ -2,7 +2,7 @@
 use Rattle.std.specs.Prelude.{ℕ, List}
 use Rattle.game.specs.promise.Tables.{Tables, vertices}
 use Rattle.space.specs.parts.Work.{section}
-use Rattle.space.specs.parts.Desk.{Desk}
+use Rattle.space.specs.declared.desk.Desk.{Desk}
 use Rattle.waiting.specs.parts.Open.{LeastOpen}
 use Rattle.step.specs.parts.Stepping.{Engine}
 

@@ -4,11 +4,11 @@ use Rattle.redo.proofs.Redoings.{marking_asks, deciding_asks, redone}
 use Rattle.redo.proofs.redo.Goals as goal
 
 pub find_reached-count-requires : goal.find_reached-count-requires
-find_reached-count-requires c = marking_asks _ _ c.requires c.predecessors.ensures.preds refl
+find_reached-count-requires c = marking_asks _ _ c.requires c.list.ensures.preds refl
 
 pub decide-requires : goal.decide-requires
 decide-requires c =
-    deciding_asks _ _ c.requires c.find_reached-count.ensures c.predecessors.ensures.preds
+    deciding_asks _ _ c.requires c.find_reached-count.ensures c.list.ensures.preds
     c.find_reached-count.auto.reached
 
 pub returns : goal.returns

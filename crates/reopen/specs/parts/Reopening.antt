@@ -5,7 +5,7 @@ use Rattle.storage.specs.promise.Answer.{mark_of}
 use Rattle.storage.specs.parts.Answers.{Stored}
 use Rattle.space.specs.parts.Work.{section}
 use Rattle.reach.specs.parts.Closure.{Queued}
-use Rattle.space.specs.parts.Desk.{Desk}
+use Rattle.space.specs.declared.desk.Desk.{Desk}
 use Rattle.waiting.specs.parts.Lines.{Covered}
 use Rattle.waiting.specs.parts.Moves.{LinesOnly, LinesOf, Standing}
 

@@ -1,15 +1,15 @@
 -- `rounds::finish` meets its contract: each turn brings the measure down, and when nothing is open the answer is accepted (Running).
+use Rattle.game.specs.promise.Lent.{asked}
 use lib.ListN.{length}
-use Rattle.game.specs.promise.Tables.{game_of, tables_of}
+use Rattle.game.specs.promise.Tables.{game_of}
 use Rattle.storage.specs.promise.Answer.{mark_of}
 use Rattle.justification.specs.parts.Measure.{measure}
-use Rattle.space.specs.parts.Desk.{desk_of}
 use Rattle.levels.specs.parts.Levels.{settled_of}
 use Rattle.step.specs.parts.Stepping.{Moved}
 use Rattle.rounds.proofs.finish.Given as goal
 
 abbrev pub invariant-loop : goal.invariant-loop
-invariant-loop l = Moved (tables_of l.owners l.priorities l.starts l.targets) l.ins l.froms l.initial.winners l.initial.moves l.initial.work (desk_of l.desk) l.winners l.moves l.work
+invariant-loop l = Moved (asked l.tables) l.preds.ins l.preds.froms l.initial.winners l.initial.moves l.initial.work l.desk l.winners l.moves l.work
 
 abbrev pub decreases-loop : goal.decreases-loop
-decreases-loop l = measure (game_of (tables_of l.owners l.priorities l.starts l.targets)) (mark_of l.winners) (settled_of (length l.owners) l.work)
+decreases-loop l = measure (game_of (asked l.tables)) (mark_of l.winners) (settled_of (length l.tables.owners.now) l.work)

@@ -6,7 +6,7 @@ pub open_all-requires : goal.open_all-requires
 open_all-requires c = startable _ _ c.requires
 
 pub settle-requires : goal.settle-requires
-settle-requires c = settleable _ _ c.requires c.open_all.ensures c.predecessors.ensures
+settle-requires c = settleable _ _ c.requires c.open_all.ensures c.list.ensures
 
 pub returns : goal.returns
 returns c = answered _ _ c.requires c.open_all.ensures c.settle.ensures c.fill.ensures.long c.fill.ensures.filled

@@ -9,11 +9,10 @@ use Rattle.solver.proofs.solve.Goals as goal
 
 pub answer-requires : goal.answer-requires
 answer-requires c =
-    let a = c.args in
-    let n = passed_front (solve_rows (asked a.owners a.priorities a.starts a.targets) (buffers a.winners a.moves a.work)) c.test_lent.ensures c.in_ok-test_lent.was in
-    let f = lent_fit _ _ _ _ n in
+    let p = c.in_ok-test_lent.ensures in
+    let f = lent_fit _ _ _ _ p.gives in
     record {
-      well_formed = lent_formed _ _ _ _ (λ v. omega (arith, c.type_inv.priorities v)) n;
+      well_formed = p.formed;
       stored = record { cells = f.0 };
       moves_long = f.1.0;
       work_long = f.1.1.0;

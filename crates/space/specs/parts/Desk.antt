@@ -1,33 +1,20 @@
--- The engine's desk: the ends of the waiting lines, who waits, the levels and the pile, in one list of cells.
+-- The engine's desk: the ends of the waiting lines, who waits, the levels and the pile.
 use Rattle.std.specs.Prelude.{ℕ, ◌≡◌, List, length, set}
-use Rattle.space.specs.parts.Work.{part}
+use Rattle.lists.specs.parts.Cells.{Filled}
+use Rattle.space.specs.declared.desk.Desk.{Desk}
 
--- what stands on it
-pub record Desk : Type 0 where
-  pub firsts : List ℕ
-  pub lasts : List ℕ
-  pub waiting : List ℕ
-  pub levels : List ℕ
-  pub pile : List ℕ
-
--- how it is laid out in cells
-unfoldable pub desk_of : List ℕ → Desk
-desk_of cells =
-    record {
-      firsts = part 0 256 cells;
-      lasts = part 256 256 cells;
-      waiting = part 512 2048 cells;
-      levels = part 2560 2048 cells;
-      pile = part 4608 2048 cells;
-    }
-
--- its parts have their sizes
+-- its lists have their sizes
 pub record Laid (d : Desk) : Type 0 where
   pub firsts_long : length d.firsts ≡ 256
   pub lasts_long : length d.lasts ≡ 256
   pub waiting_long : length d.waiting ≡ 2048
   pub levels_long : length d.levels ≡ 2048
   pub pile_long : length d.pile ≡ 2048
+
+-- on a blank desk nobody waits
+pub record Blank (d : Desk) : Type 0 where
+  pub laid : Laid d
+  pub nobody : Filled d.waiting 0
 
 -- the desk with one cell of one part written
 abbrev pub put_first : (k x : ℕ) → Desk → Desk

@@ -3,7 +3,7 @@ use Rattle.std.specs.Prelude.{ℕ, ◌≡◌, ◌≢◌, List, get_or}
 use Rattle.player.specs.promise.Player.{parity_of}
 use Rattle.storage.specs.parts.Answers.{MoveSet}
 use Rattle.space.specs.parts.Work.{FlagSet}
-use Rattle.space.specs.parts.Desk.{Desk}
+use Rattle.space.specs.declared.desk.Desk.{Desk}
 use Rattle.levels.specs.parts.Levels.{LevelSet, LevelsOnly}
 use Rattle.turn.specs.parts.Turning.{TurnedIn}
 

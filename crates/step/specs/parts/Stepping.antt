@@ -7,7 +7,7 @@ use Rattle.justification.specs.parts.Safe.{Onward, Eligible, Levelled}
 use Rattle.justification.specs.parts.Step.{TestGives}
 use Rattle.justification.specs.parts.Measure.{measure}
 use Rattle.space.specs.parts.Work.{section}
-use Rattle.space.specs.parts.Desk.{Desk}
+use Rattle.space.specs.declared.desk.Desk.{Desk}
 use Rattle.preds.specs.parts.Preds.{Preds}
 use Rattle.waiting.specs.parts.Lines.{Covered}
 use Rattle.waiting.specs.parts.Moves.{Standing}

@@ -1,7 +1,8 @@
 -- What gathering the new ones of a line asks and gives: nobody who is open leaves his line.
 use Rattle.std.specs.Prelude.{ℕ, ◌<◌, ◌≡◌, ◌≢◌, List, get_or}
 use Rattle.space.specs.parts.Work.{section, Cell}
-use Rattle.space.specs.parts.Desk.{Desk, Laid}
+use Rattle.space.specs.declared.desk.Desk.{Desk}
+use Rattle.space.specs.parts.Desk.{Laid}
 use Rattle.waiting.specs.parts.Moves.{LinesOf}
 use Rattle.pile.specs.parts.Pile.{Piled, Pushable}
 

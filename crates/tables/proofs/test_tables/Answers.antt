@@ -9,6 +9,7 @@ use Rattle.game.specs.promise.Faults.{Fault1, Fault2, Fault3, Fault4, Fault5, Fa
 use Rattle.game.specs.promise.Lent.{asked}
 use Rattle.game.proofs.Starts.{placed_of}
 use Rattle.game.proofs.Sizes.{fitting_of_none}
+use Rattle.tables.proofs.Formed.{formed}
 use Rattle.tables.proofs.test_tables.Goals as goal
 
 pub start-requires : goal.start-requires
@@ -26,15 +27,17 @@ order-requires c =
 passed_entry : {t : Tables} → NoPlace (Fault1 t) → NoPlace (Fault2 t.owners) → NoPlace (Fault3 t.priorities) → NoPlace (Fault4 t.starts t.targets) → None (entry_rows t)
 passed_entry one two three four = (one, (two, (three, (four, tt))))
 
-pub returns-in_err-refuse-5 : goal.returns-in_err-refuse-5
-returns-in_err-refuse-5 c =
-    let entry = passed_entry (row_passed (Fault1 _) c.refuse.ensures c.sizes.ensures c.in_ok-refuse.was) (row_passed (Fault2 _) c.refuse-2.ensures c.owner.ensures c.in_ok-refuse-2.was) (row_passed (Fault3 _) c.refuse-3.ensures c.priority.ensures c.in_ok-refuse-3.was) (row_passed (Fault4 _ _) c.refuse-4.ensures c.start.ensures c.in_ok-refuse-4.was) in
+pub returns-in_err-refuse-5-clause-gives : goal.returns-in_err-refuse-5-clause-gives
+returns-in_err-refuse-5-clause-gives c =
+    let entry = passed_entry (row_passed (Fault1 _) c.refuse.ensures c.sizes.ensures c.in_ok-refuse.was) (row_passed (Fault2 _) c.refuse-2.ensures c.owner.ensures c.in_ok-refuse-2.was) (row_passed (Fault3 _) c.refuse-3.ensures c.priority.ensures.finds c.in_ok-refuse-3.was) (row_passed (Fault4 _ _) c.refuse-4.ensures c.start.ensures c.in_ok-refuse-4.was) in
     row_first (entry_rows _) (Fault5 _ _ _) (row 6 (Fault6 _ _) ∷ row 7 (Fault7 _ _ _) ∷ []) entry c.refuse-5.ensures c.stuck.ensures c.in_err-refuse-5.was (search rules)
 
-pub returns : goal.returns
-returns c =
-    let entry = passed_entry (row_passed (Fault1 _) c.refuse.ensures c.sizes.ensures c.in_ok-refuse.was) (row_passed (Fault2 _) c.refuse-2.ensures c.owner.ensures c.in_ok-refuse-2.was) (row_passed (Fault3 _) c.refuse-3.ensures c.priority.ensures c.in_ok-refuse-3.was) (row_passed (Fault4 _ _) c.refuse-4.ensures c.start.ensures c.in_ok-refuse-4.was) in
+pub returns-clause-gives : goal.returns-clause-gives
+returns-clause-gives c =
+    let entry = passed_entry (row_passed (Fault1 _) c.refuse.ensures c.sizes.ensures c.in_ok-refuse.was) (row_passed (Fault2 _) c.refuse-2.ensures c.owner.ensures c.in_ok-refuse-2.was) (row_passed (Fault3 _) c.refuse-3.ensures c.priority.ensures.finds c.in_ok-refuse-3.was) (row_passed (Fault4 _ _) c.refuse-4.ensures c.start.ensures c.in_ok-refuse-4.was) in
     let five = row_passed (Fault5 _ _ _) c.refuse-5.ensures c.stuck.ensures c.in_ok-refuse-5.was in
-    let a = c.args in
-    let six = row_passed (Fault6 _ _) c.refuse-6.ensures c.target.ensures c.in_ok-refuse-6.was in
-    later (entry_rows _) (stretch_rows (asked a.owners a.priorities a.starts a.targets)) _ entry (row_last (row 5 (Fault5 _ _ _) ∷ row 6 (Fault6 _ _) ∷ []) (Fault7 _ _ _) (five, (six, tt)) c.refuse-7.ensures c.order.ensures)
+    let six = row_passed (Fault6 _ _) c.refuse-6.ensures (rw c.vertices.ensures at c.target.ensures) c.in_ok-refuse-6.was in
+    later (entry_rows _) (stretch_rows (asked c.args.tables)) _ entry (row_last (row 5 (Fault5 _ _ _) ∷ row 6 (Fault6 _ _) ∷ []) (Fault7 _ _ _) (five, (six, tt)) c.refuse-7.ensures c.order.ensures)
+
+pub returns-clause-formed : goal.returns-clause-formed
+returns-clause-formed c = formed _ _ c.priority.ensures.bytes (returns-clause-gives c)

@@ -1,6 +1,7 @@
 -- What settling a vertex asks.
 use Rattle.std.specs.Prelude.{ℕ, ◌*◌, ◌<◌, ◌≤◌, ◌≡◌, List, length}
-use Rattle.space.specs.parts.Desk.{Desk, Laid}
+use Rattle.space.specs.declared.desk.Desk.{Desk}
+use Rattle.space.specs.parts.Desk.{Laid}
 
 -- a move and a level for v can be written
 pub record Keepable (v : ℕ) (d : Desk) (moves work : List ℕ) : Type 0 where

@@ -5,7 +5,8 @@ use Rattle.storage.specs.promise.Answer.{mark_of}
 use Rattle.storage.specs.parts.Answers.{Stored, MoveSet}
 use Rattle.winning.specs.promise.Walk.{Walk}
 use Rattle.space.specs.parts.Work.{section}
-use Rattle.space.specs.parts.Desk.{Desk, Laid}
+use Rattle.space.specs.declared.desk.Desk.{Desk}
+use Rattle.space.specs.parts.Desk.{Laid}
 use Rattle.preds.specs.parts.Preds.{Backward}
 use Rattle.reach.specs.parts.Closure.{Allowed}
 use Rattle.waiting.specs.parts.Open.{NoneBelow}

@@ -7,10 +7,7 @@ use Rattle.writer.proofs.fill.Goals as goal
 
 pub loop-b-preserved : goal.loop-b-preserved
 loop-b-preserved c =
-    let a = c.args in
-    blocks_more (plain (asked a.owners a.priorities a.starts a.targets)) _ _ _ (omega arith) c.loop-b.invariant c.block.ensures
+    blocks_more (plain (asked c.args.tables)) _ _ _ (omega arith) c.loop-b.invariant c.block.ensures
 
 pub returns : goal.returns
-returns c =
-    let a = c.args in
-    blocks_all (plain (asked a.owners a.priorities a.starts a.targets)) _ _ (omega arith) c.loop-b.invariant
+returns c = blocks_all (plain (asked c.args.tables)) _ _ (omega arith) c.loop-b.invariant

@@ -1,4 +1,5 @@
 -- `amend::marking::seed_differing` meets its contract. The invariant, `Seeding`: of the vertices passed those that differ are seeds.
+use Rattle.game.specs.promise.Lent.{asked}
 use Rattle.game.specs.promise.Tables.{game_of, tables_of}
 use Rattle.amend.specs.promise.Amended.{Differs}
 use Rattle.amend.specs.parts.Marking.{Seeding}
@@ -6,4 +7,4 @@ use Rattle.amend.proofs.marking.seed_differing.Given as goal
 
 abbrev pub invariant-loop-v : goal.invariant-loop-v
 invariant-loop-v l =
-    Seeding (Differs (game_of (tables_of l.owners l.priorities l.starts l.targets)) (game_of (tables_of l.owners2 l.priorities2 l.starts2 l.targets2))) l.n l.initial.work l.work l.tail l.v
+    Seeding (Differs (game_of (asked l.first)) (game_of (asked l.second))) l.n l.initial.work l.work l.tail l.v

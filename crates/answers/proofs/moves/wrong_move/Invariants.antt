@@ -1,9 +1,10 @@
 -- `answers::moves::wrong_move` meets its contract. Row 12 is a scan; at each vertex the test by its stretch is the row (Stretches.says12).
 use Rattle.winning.specs.promise.Faults.{Fault12}
-use Rattle.game.specs.promise.Tables.{game_of, tables_of}
+use Rattle.game.specs.promise.Tables.{game_of}
+use Rattle.game.specs.promise.Lent.{asked}
 use Rattle.storage.specs.promise.Answer.{mark_of, move_of}
 use Rattle.refusal.specs.parts.Found.{Scanned}
 use Rattle.answers.proofs.moves.wrong_move.Given as goal
 
 abbrev pub invariant-loop-v : goal.invariant-loop-v
-invariant-loop-v l = Scanned (Fault12 (game_of (tables_of l.owners l.priorities l.starts l.targets)) (mark_of l.winners) (move_of l.moves)) l.v
+invariant-loop-v l = Scanned (Fault12 (game_of (asked l.tables)) (mark_of l.winners) (move_of l.moves)) l.v

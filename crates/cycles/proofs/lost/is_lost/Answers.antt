@@ -9,20 +9,24 @@ pub mark-requires : goal.mark-requires
 mark-requires c = let p = c.requires in has_room p.passed.answered.stored p.vertex
 
 pub seed-one-requires : goal.seed-one-requires
-seed-one-requires c = seedable c.requires
+seed-one-requires c = rw c.vertices-n.ensures (seedable c.requires)
 
 pub successors-requires : goal.successors-requires
 successors-requires c = let p = c.requires in stretch_of _ _ _ p.passed.answered.well_formed.placed _ p.vertex
 
 pub comes_back-back-requires : goal.comes_back-back-requires
 comes_back-back-requires c =
-    backable c.requires c.seed-one.ensures c.from-bound.ensures c.close-tail.ensures c.successors.ensures c.recorded.ensures
+    let seeded = rw c.vertices-n.ensures at c.seed-one.ensures in
+    let closed = rw c.vertices-n.ensures at c.close-tail.ensures in
+    rw c.vertices-n.ensures (backable c.requires seeded c.from-bound.ensures closed c.successors.ensures c.recorded.ensures)
 
 pub returns : goal.returns
 returns c =
+    let seeded = rw c.vertices-n.ensures at c.seed-one.ensures in
+    let closed = rw c.vertices-n.ensures at c.close-tail.ensures in
     record {
       says =
-          says14 c.requires c.seed-one.ensures c.from-bound.ensures c.close-tail.ensures c.successors.ensures c.recorded.ensures
-          (λ same. c.if-from-mark.false (c.from.ensures ∙ c.of_priority.ensures ∙ same ∙ sym c.mark.ensures)) c.comes_back-back.ensures;
-      ready = ready_again c.requires c.seed-one.ensures c.from-bound.ensures c.close-tail.ensures c.clear.ensures;
+          says14 c.requires seeded c.from-bound.ensures closed c.successors.ensures c.recorded.ensures
+          (λ same. c.if-from-mark.false (c.from.ensures ∙ c.of_priority.ensures ∙ same ∙ sym c.mark.ensures)) (rw c.vertices-n.ensures at c.comes_back-back.ensures);
+      ready = ready_again c.requires seeded c.from-bound.ensures closed (rw c.vertices-n.ensures at c.clear.ensures);
     }

@@ -2,13 +2,13 @@
 use Rattle.cycles.specs.parts.Rounds.{Ready}
 use Rattle.winning.specs.promise.Faults.{Fault14}
 use Rattle.storage.specs.promise.Answer.{mark_of, move_of}
-use Rattle.game.specs.promise.Tables.{game_of, tables_of}
+use Rattle.game.specs.promise.Tables.{game_of, vertices}
+use Rattle.game.specs.promise.Lent.{asked}
 use Rattle.refusal.specs.parts.Found.{Scanned}
-use lib.ListN.{length}
 use Rattle.cycles.proofs.lost.lowest_lost.Given as goal
 
 abbrev pub invariant-loop-x : goal.invariant-loop-x
 invariant-loop-x l = record {
-  ready : Ready (length l.owners) l.priorities l.work;
-  scanned : Scanned (Fault14 (game_of (tables_of l.owners l.priorities l.starts l.targets)) (mark_of l.winners) (move_of l.moves)) l.x;
+  ready : Ready (vertices (asked l.tables)) l.tables.priorities.now l.work;
+  scanned : Scanned (Fault14 (game_of (asked l.tables)) (mark_of l.winners) (move_of l.moves)) l.x;
 }

@@ -37,7 +37,7 @@ slice_bounds-game_lines-end c =
 
 pub slice_bounds-game_lines-end-2 : goal.slice_bounds-game_lines-end-2
 slice_bounds-game_lines-end-2 c =
-    sym (length_front blank.answer.moves c.answer.new.moves (length c.args.owners.now) c.answer.auto.moves)
+    sym (length_front blank.answer.moves c.answer.new.moves (length c.args.tables.owners.now) c.answer.auto.moves)
 
 pub game_lines-requires : goal.game_lines-requires
 game_lines-requires c =

@@ -8,20 +8,20 @@ use Rattle.listing.proofs.list.told.Goals as goal
 pub refused_line-requires : goal.refused_line-requires
 refused_line-requires c = refused_room _ _ _ c.requires.1
 
-pub overflow_add-n : goal.overflow_add-n
-overflow_add-n c = omega (arith, (game_tabled _ _ _ c.in-Ok.is c.requires.0).starts_long)
+pub overflow_add-game : goal.overflow_add-game
+overflow_add-game c = omega (arith, (game_tabled _ _ _ c.in-Ok.is c.requires.0).starts_long)
 
-pub slice_bounds-listed-end : goal.slice_bounds-listed-end
-slice_bounds-listed-end c = sym (length-take-le _ _ (game_tabled _ _ _ c.in-Ok.is c.requires.0).owners_long)
+pub slice_bounds-game-end : goal.slice_bounds-game-end
+slice_bounds-game-end c = sym (length-take-le _ _ (game_tabled _ _ _ c.in-Ok.is c.requires.0).owners_long)
 
-pub slice_bounds-listed-end-in-Ok : goal.slice_bounds-listed-end-in-Ok
-slice_bounds-listed-end-in-Ok c = sym (length-take-le _ _ (game_tabled _ _ _ c.in-Ok.is c.requires.0).priorities_long)
+pub slice_bounds-game-end-in-Ok : goal.slice_bounds-game-end-in-Ok
+slice_bounds-game-end-in-Ok c = sym (length-take-le _ _ (game_tabled _ _ _ c.in-Ok.is c.requires.0).priorities_long)
 
-pub slice_bounds-listed-end-in-Ok-2 : goal.slice_bounds-listed-end-in-Ok-2
-slice_bounds-listed-end-in-Ok-2 c = sym (length-take-le _ _ (game_tabled _ _ _ c.in-Ok.is c.requires.0).starts_long)
+pub slice_bounds-game-end-in-Ok-2 : goal.slice_bounds-game-end-in-Ok-2
+slice_bounds-game-end-in-Ok-2 c = sym (length-take-le _ _ (game_tabled _ _ _ c.in-Ok.is c.requires.0).starts_long)
 
-pub slice_bounds-listed-end-in-Ok-3 : goal.slice_bounds-listed-end-in-Ok-3
-slice_bounds-listed-end-in-Ok-3 c = sym (length-take-le _ _ (game_tabled _ _ _ c.in-Ok.is c.requires.0).targets_long)
+pub slice_bounds-game-end-in-Ok-3 : goal.slice_bounds-game-end-in-Ok-3
+slice_bounds-game-end-in-Ok-3 c = sym (length-take-le _ _ (game_tabled _ _ _ c.in-Ok.is c.requires.0).targets_long)
 
 pub listed-requires : goal.listed-requires
 listed-requires c = ((game_tabled _ _ _ c.in-Ok.is c.requires.0).well_formed, c.requires.1)

@@ -25,4 +25,4 @@ slice_bounds-test_tables-end-4 c = sym (length-take-le _ _ (omega (arith, c.requ
 pub returns : goal.returns
 returns c =
     let same = holding_take c.requires.0.sized c.vertices-n.ensures.is c.edges-m.ensures.is c.requires.1 in
-    filed_said _ c.requires.0 c.test_tables.result (subst (λ (t : Tables). Gives (table_rows t) (tested_said c.test_tables.result)) same c.test_tables.ensures)
+    filed_said _ c.requires.0 c.test_tables.result (subst (λ (t : Tables). Gives (table_rows t) (tested_said c.test_tables.result)) same c.test_tables.ensures.gives)

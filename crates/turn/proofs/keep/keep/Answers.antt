@@ -5,7 +5,7 @@ use Rattle.space.proofs.Flags.{flag_set}
 use Rattle.turn.proofs.keep.keep.Goals as goal
 
 pub set_level-requires : goal.set_level-requires
-set_level-requires c = (c.requires.laid, omega (arith, c.requires.vertex, c.requires.small))
+set_level-requires c = omega (arith, c.requires.vertex, c.requires.small)
 
 pub set_flag-requires : goal.set_flag-requires
 set_flag-requires c = let p = c.requires in record { small = p.small; long = p.work_long; within = p.vertex }
