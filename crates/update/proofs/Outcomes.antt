@@ -1,8 +1,8 @@
 -- The update's outcomes: refused by a test before the checker's, refused by the checker, or done.
-use Prim.Native.Nat.{ℕ, ◌<◌}
+use Prim.Native.Nat.{ℕ}
 use mathlib.Core.Path.{◌≡◌, refl, sym, subst, ◌∙◌}
 use mathlib.Core.List.{List}
-use lib.ListN.{length, get_or}
+use lib.ListN.{length}
 use Rattle.refusal.specs.promise.Row.{None, Gives}
 use Rattle.refusal.specs.promise.Number.{number_of}
 use Rattle.refusal.specs.promise.Number.{tested_said}

@@ -18,6 +18,7 @@ use storage::Winner;
 
 // The checker's verdict on the old answer comes first; a refusal ends the update. The two games' predecessor lists stand in one place,
 // one after the other.
+#[tactic(auto, using(crate::proofs::Outcomes::refused_judged))]
 fn amend(
     first: Tables,
     second: Tables,
