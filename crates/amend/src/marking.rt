@@ -6,12 +6,12 @@ ghost use Rattle.amend.specs.parts.Marking.{DifferingSeedable, Seeding, Copyable
 
 use crate::compare::differs;
 use game::tables::Tables;
-use preds::Predecessors;
+use preds::Incoming;
 use reach::closure::{close, seed};
-use space::fill::fill;
 use space::work::reached;
 
-// Seeds every differing vertex and returns their number.
+// Seeds every differing vertex and returns their number. `restart::seed_open` is the same loop with another test: one that is lent the test
+// would have to say in its contract what the two tests say of the work space, for two lines saved.
 fn seed_differing(first: Tables, second: Tables, work: &mut [u16]) -> usize
     requires { DifferingSeedable (asked first) (asked second) work.old }
     ensures { Seeding (Differs (game_of (lent first)) (game_of (lent second))) (vertices (lent second)) work.old work.new result (vertices (lent second)) }
@@ -26,7 +26,7 @@ fn seed_differing(first: Tables, second: Tables, work: &mut [u16]) -> usize
     tail
 }
 
-// What the closure has reached of n vertices, as bytes.
+// What the closure has reached of n vertices, as bytes, as `start::kept` says. n is the work space's; what is behind it in the bytes stays.
 fn copy_reached(n: usize, work: &[u16], bytes: &mut [u8])
     requires { Copyable n bytes.old work.now }
     ensures { Copied n work.now bytes.new n }
@@ -41,17 +41,17 @@ fn copy_reached(n: usize, work: &[u16], bytes: &mut [u8])
 pub fn find_reached(
     first: Tables,
     second: Tables,
-    preds: &Predecessors,
+    preds: Incoming,
     reached: &mut [u8],
     work: &mut [u16],
 ) -> usize
-    requires { Findable (asked first) (asked second) preds.now.ins preds.now.froms reached.old work.old }
+    requires { Findable (asked first) (asked second) preds.ins.now preds.froms.now reached.old work.old }
     ensures { FoundReached (lent first) (lent second) work.old reached.new work.new result }
 {
     let n = second.owners.len();
     let seeds = seed_differing(first, second, work);
     let count = close(n, preds, 0, &[], work, seeds);
     copy_reached(n, work, reached);
-    fill(work, 0);
+    work.fill(0);
     count
 }

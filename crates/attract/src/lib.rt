@@ -7,9 +7,8 @@ ghost use Rattle.draw.specs.parts.Drawing.{Drainable, Drawn};
 
 use draw::visit;
 use game::tables::Tables;
-use game::vertex::wide;
 use pile::Pile;
-use preds::Predecessors;
+use preds::Incoming;
 use space::desk::Desk;
 use storage::Winner;
 
@@ -26,15 +25,15 @@ pub fn drain(
     low: u16,
     budget: usize,
     tables: Tables,
-    preds: &Predecessors,
+    preds: Incoming,
     desk: &mut Desk,
     winners: &mut [Winner],
     moves: &mut [u16],
     work: &mut [u16],
 ) -> Left
-    requires { Drainable tail (asked tables) preds.now.ins preds.now.froms desk.old winners.old moves.old work.old }
+    requires { Drainable tail (asked tables) preds.ins.now preds.froms.now desk.old winners.old moves.old work.old }
     ensures left { result.budget ≤ budget }
-    ensures moved { Drawn 0 (lent tables) preds.now.ins preds.now.froms winners.old moves.old work.old desk.new winners.new moves.new work.new }
+    ensures moved { Drawn 0 (lent tables) preds.entry.ins.now preds.entry.froms.now winners.old moves.old work.old desk.new winners.new moves.new work.new }
 {
     let mut pile = Pile { tail, top: 0 };
     // `left` is what this visit leaves.
@@ -52,7 +51,7 @@ pub fn drain(
             top: pile.top,
         };
         pile = visit(
-            wide(desk.piled(last)),
+            usize::from(desk.piled(last)),
             low,
             rest,
             tables,

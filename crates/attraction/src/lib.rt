@@ -8,7 +8,7 @@ ghost use Rattle.orders.specs.parts.Ending.{Ran};
 use game::tables::Tables;
 use orders::Ended;
 use pick::pick;
-use preds::Predecessors;
+use preds::Incoming;
 use probe::probe;
 use space::desk::Desk;
 use storage::Winner;
@@ -18,14 +18,14 @@ use sweep::sweep;
 pub fn attraction(
     budget: usize,
     tables: Tables,
-    preds: &Predecessors,
+    preds: Incoming,
     desk: &mut Desk,
     winners: &mut [Winner],
     moves: &mut [u16],
     work: &mut [u16],
 ) -> Ended
-    requires { Drainable 0 (asked tables) preds.now.ins preds.now.froms desk.old winners.old moves.old work.old }
-    ensures { Ran (lent tables) preds.now.ins preds.now.froms winners.old moves.old work.old desk.new winners.new moves.new work.new result }
+    requires { Drainable 0 (asked tables) preds.ins.now preds.froms.now desk.old winners.old moves.old work.old }
+    ensures { Ran (lent tables) preds.entry.ins.now preds.entry.froms.now winners.old moves.old work.old desk.new winners.new moves.new work.new result }
 {
     let n = tables.owners.len();
     let mut top: usize = 256;

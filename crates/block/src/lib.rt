@@ -1,4 +1,5 @@
-// A block's own tests: its check (42), its number and kind (43), its other bytes (44).
+// A block's own tests: its check (42), its number and kind (43), its other bytes (44). Each takes the whole file and the block's place: a promise speaks of the
+// file's bytes. That the block is there is asked each time, and no type holds it: these functions promise for any file that has the block.
 #![tactic(auto)]
 
 ghost use Rattle.std.specs.Prelude.{◌+◌, ◌≤◌, length};
@@ -29,7 +30,8 @@ fn kind(file: &[u8], b: usize) -> Option<usize>
     ensures { Finds (Fault43 file.now b) result }
 {
     let from = 512 * b;
-    let right = word(file, from) as usize == b && file[from + 2] == kind_of(vertices(file), b);
+    let right = usize::from(word(file, from)) == b
+        && file[from + 2] == kind_of(vertices(file), b) as u8;
     (!right).then_some(b)
 }
 
@@ -49,7 +51,7 @@ fn others(file: &[u8], b: usize) -> Option<usize>
     let from = 512 * b;
     let used = used_of(vertices(file), edges(file), b);
     let right = file[from + 3] == 0
-        && word(file, from + 4) as usize == used
+        && usize::from(word(file, from + 4)) == used
         && (b != 0 || rule(file) <= 1);
     if !right {
         return Some(b);

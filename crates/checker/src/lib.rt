@@ -12,39 +12,34 @@ use answers::escapes::open_escape;
 use answers::moves::wrong_move;
 use cycles::lost::lost_cycle;
 use game::tables::Tables;
-use preds::Predecessors;
+use preds::{Incoming, Predecessors};
 use refusal::{AnswerFault, Kind, Refusal, refuse};
-use space::fill::fill;
-use storage::Winner;
+use storage::answer::Answer;
 use storage::marks::strange_mark;
 use tables::lent::test_lent;
 
 // 11 to 14, each over all vertices before the next, on an answer to a game that has passed 1 to 8, with the game's predecessor lists.
 pub fn judge(
     tables: Tables,
-    winners: &[Winner],
-    moves: &[u16],
-    preds: &Predecessors,
+    answer: Answer,
+    preds: Incoming,
     work: &mut [u16],
 ) -> Result<(), Refusal>
-    requires { Judgeable (asked tables) (claim winners moves) preds.now.ins preds.now.froms work.old }
-    ensures { Judged (lent tables) (claimed winners moves) work.old work.new (tested_said result) }
+    requires { Judgeable (asked tables) (claim answer) preds.ins.now preds.froms.now work.old }
+    ensures { Judged (lent tables) (claimed answer) work.old work.new (tested_said result) }
 {
-    fill(work, 0);
+    work.fill(0);
     refuse(
-        strange_mark(tables.owners.len(), winners),
+        strange_mark(tables.owners.len(), answer.winners),
         Kind::Claim(AnswerFault::Mark),
     )?;
+    refuse(wrong_move(tables, answer), Kind::Claim(AnswerFault::Move))?;
     refuse(
-        wrong_move(tables, winners, moves),
-        Kind::Claim(AnswerFault::Move),
-    )?;
-    refuse(
-        open_escape(tables, winners, moves),
+        open_escape(tables, answer),
         Kind::Claim(AnswerFault::Escape),
     )?;
     refuse(
-        lost_cycle(tables, winners, moves, preds, work),
+        lost_cycle(tables, answer, preds, work),
         Kind::Claim(AnswerFault::Cycle),
     )
 }
@@ -52,29 +47,23 @@ pub fn judge(
 // The same, where the game's predecessor lists are made in lent lists, whatever these hold.
 pub fn judge_in(
     tables: Tables,
-    winners: &[Winner],
-    moves: &[u16],
+    answer: Answer,
     preds: &mut Predecessors,
     work: &mut [u16],
 ) -> Result<(), Refusal>
-    requires { JudgeableIn (asked tables) (claim winners moves) preds.old.ins preds.old.froms work.old }
+    requires { JudgeableIn (asked tables) (claim answer) preds.old.ins preds.old.froms work.old }
     ensures room { Blank preds.new.ins preds.new.froms }
-    ensures judged { Judged (lent tables) (claimed winners moves) work.old work.new (tested_said result) }
+    ensures judged { Judged (lent tables) (claimed answer) work.old work.new (tested_said result) }
 {
     preds.list(tables);
-    judge(tables, winners, moves, preds, work)
+    judge(tables, answer, preds.incoming(), work)
 }
 
 // Whether the answer is right for the game: the first of 1 to 8 and 11 to 14 that applies, or acceptance.
-pub fn check(
-    tables: Tables,
-    winners: &[Winner],
-    moves: &[u16],
-    work: &mut [u16],
-) -> Result<(), Refusal>
-    ensures { Checks (lent tables) (claimed winners moves) work.old work.new (tested_said result) }
+pub fn check(tables: Tables, answer: Answer, work: &mut [u16]) -> Result<(), Refusal>
+    ensures { Checks (lent tables) (claimed answer) work.old work.new (tested_said result) }
 {
-    test_lent(tables, winners.len(), moves.len(), work.len())?;
+    test_lent(tables, answer.winners.len(), answer.moves.len(), work.len())?;
     let mut preds = Predecessors::blank();
-    judge_in(tables, winners, moves, &mut preds, work)
+    judge_in(tables, answer, &mut preds, work)
 }

@@ -3,7 +3,7 @@ ghost use Rattle.cycles.specs.parts.Levels.{LevelsAsked, PrioritiesSet};
 
 use space::work::set_flag;
 
-// Puts the priorities into the work space.
+// Puts the priorities into the work space; `levels::by_priority` puts them on the desk.
 pub fn set_levels(priorities: &[u8], work: &mut [u16])
     requires { LevelsAsked priorities.now work.old }
     ensures { PrioritiesSet priorities.now work.old work.new }

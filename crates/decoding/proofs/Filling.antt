@@ -1,10 +1,12 @@
--- A blank table whose first cells are filled holds the list that they say.
-use Prim.Native.Nat.{ℕ, ◌<◌, ◌≤◌}
-use mathlib.Core.Path.{◌≡◌, sym, ◌∙◌}
-use mathlib.Core.List.{List, []}
+-- A table whose first cells are filled holds the list that they say.
+use Prim.Native.Nat.{ℕ, ◌+◌, ◌-◌, ◌<◌, ◌≤◌}
+use mathlib.Core.Path.{◌≡◌, sym, ap, ◌∙◌}
+use mathlib.Core.List.{List, ◌++◌}
 use native.Mathlib.Omega.{arith}
 use native.Mathlib.Decide.{dec_lt}
-use lib.ListN.{length, get_or, get_or-eq_default}
+use lib.ListN.{length, get_or, take, drop, length-drop, length-append, get_or-append, get_or-eq_default}
+use lib.Seq.{length-take-le}
+use Rattle.std.proofs.lemmas.List.{get_or-append_right, get_or-drop}
 use Rattle.decoding.specs.promise.Holding.{Padded}
 
 -- below i it holds the list already, from i on it is still blank
@@ -21,8 +23,19 @@ filled_all list table i e l f = record { long = e; same = λ k. at k (dec_lt k i
         let past : length list ≤ k = omega arith in
         f.1 k (omega arith) ∙ sym (get_or-eq_default list 0 past)
 
--- the first i cells of a blank table are filled, and the others stay
-pub filled_blank :
-    {size : ℕ} (list table after : List ℕ) (i : ℕ) → Padded size [] table → length after ≡ length table → length list ≤ i →
-    ((k : ℕ) → k < i → get_or after k 0 ≡ get_or list k 0) → ((k d : ℕ) → i ≤ k → get_or after k d ≡ get_or table k d) → Padded size list after
-filled_blank list table after i p e l filled rest = filled_all list after i (e ∙ p.long) l (filled, λ k m. rest k 0 m ∙ p.same k)
+-- cells as many as the list, before the rest of a table that held no more
+pub padded_front :
+    {size n : ℕ} {held list table : List ℕ} (cells : List ℕ) → Padded size held table → length held ≤ n → n ≡ length list → n ≤ size →
+    length cells ≡ length (take n table) → ((k : ℕ) → k < length (take n table) → get_or cells k 0 ≡ get_or list k 0) → Padded size list (cells ++ drop n table)
+padded_front {size} {n} {held} {list} {table} cells p short long within e is =
+    record { long = omega (arith, few, length-append cells (drop n table), length-drop n table, p.long); same = λ i. at i (dec_lt i n) }
+  where
+    few : length (take n table) ≡ n
+    few = length-take-le n table (omega (arith, p.long))
+
+    at : (i : ℕ) → Dec (i < n) → get_or (cells ++ drop n table) i 0 ≡ get_or list i 0
+    at i (yes l) = get_or-append cells (drop n table) 0 i (omega (arith, few)) ∙ is i (omega (arith, few))
+    at i (no h) =
+        let there : n + (i - n) ≡ i = omega arith in
+        get_or-append_right cells (drop n table) n i 0 (e ∙ few) (omega arith) ∙ get_or-drop n table (i - n) 0 ∙ ap (λ (k : ℕ). get_or table k 0) there ∙ p.same i ∙
+        get_or-eq_default held 0 (let l : length held ≤ i = omega arith in l) ∙ sym (get_or-eq_default list 0 (let l : length list ≤ i = omega arith in l))

@@ -14,7 +14,7 @@ fn total(file: &[u8]) -> usize
 {
     let mut sum: usize = 0;
     for v in 0..vertices(file) {
-        sum += count(file, v) as usize;
+        sum += usize::from(count(file, v));
     }
     sum
 }

@@ -1,5 +1,6 @@
 // The four tables as they are filed, the priorities not yet turned. They are set down in blank tables, so that zeros stand past them.
-ghost use Rattle.std.specs.Prelude.{◌≡◌, ◌<◌, ◌≤◌, ℕ, [], length, slice_index_or};
+// Each table is a slice, so that one `fill` serves all lengths; blank before and filled after is a fact about a moment, which is no type's invariant.
+ghost use Rattle.std.specs.Prelude.{◌≡◌, ◌<◌, ℕ, [], length, slice_index_or};
 ghost use Rattle.format.specs.promise.Filed.{owners_filed, priorities_filed, starts_filed, targets_filed};
 ghost use Rattle.format.specs.parts.Tests.{FileSized, Summed};
 ghost use Rattle.decoding.specs.promise.Holding.{Padded};
@@ -7,16 +8,14 @@ ghost use Rattle.decoding.specs.promise.Holding.{Padded};
 use crate::places::{count, first_target, owner, priority, target};
 use format::bytes::{edges, vertices};
 
-// The first n cells, each by its place; the others stay.
-fn fill<T: Copy, F: Fn(usize) -> T>(table: &mut [T], n: usize, value: F)
-    requires room { n ≤ length table.old }
-    requires callable { (k : ℕ) → k < n → F.pre value k }
-    ensures long { length table.new ≡ length table.old }
-    ensures filled { (k : ℕ) (d : T) → k < n → F.post value k (slice_index_or table.new k d) }
-    ensures rest { (k : ℕ) (d : T) → n ≤ k → slice_index_or table.new k d ≡ slice_index_or table.old k d }
+// Each cell by its place, which is what `value` takes.
+fn fill<T: Copy, F: Fn(usize) -> T>(part: &mut [T], value: F)
+    requires callable { (k : ℕ) → k < length part.old → F.pre value k }
+    ensures long { length part.new ≡ length part.old }
+    ensures filled { (k : ℕ) (d : T) → k < length part.old → F.post value k (slice_index_or part.new k d) }
 {
-    for k in 0..n {
-        table[k] = value(k);
+    for k in 0..part.len() {
+        part[k] = value(k);
     }
 }
 
@@ -24,14 +23,14 @@ pub fn owners(file: &[u8], table: &mut [u8])
     requires { FileSized file.now × Padded 2048 [] table.old }
     ensures { Padded 2048 (owners_filed file.now) table.new }
 {
-    fill(table, vertices(file), |v| owner(file, v));
+    fill(&mut table[..vertices(file)], |v| owner(file, v));
 }
 
 pub fn priorities(file: &[u8], table: &mut [u8])
     requires { FileSized file.now × Padded 2048 [] table.old }
     ensures { Padded 2048 (priorities_filed file.now) table.new }
 {
-    fill(table, vertices(file), |v| priority(file, v));
+    fill(&mut table[..vertices(file)], |v| priority(file, v));
 }
 
 // The first start is the zero that stands there. Each is a running sum, so the loop stands here and not in `fill`.
@@ -51,5 +50,5 @@ pub fn targets(file: &[u8], table: &mut [u16])
     ensures { Padded 16384 (targets_filed file.now) table.new }
 {
     let first = first_target(file);
-    fill(table, edges(file), |e| target(file, first, e));
+    fill(&mut table[..edges(file)], |e| target(file, first, e));
 }

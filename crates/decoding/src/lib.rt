@@ -4,4 +4,5 @@
 pub mod counts;
 pub mod fields;
 mod places;
+pub mod room;
 pub mod turn;

@@ -5,10 +5,9 @@ ghost use Rattle.game.specs.promise.Lent.{asked, lent};
 ghost use Rattle.draw.specs.parts.Drawing.{Drawable, Drawn, DrawVisitable};
 
 use game::tables::Tables;
-use game::vertex::wide;
 use offer::offer;
 use pile::{Pile, push};
-use preds::Predecessors;
+use preds::Incoming;
 use space::desk::Desk;
 use step::step;
 use storage::Winner;
@@ -20,14 +19,14 @@ fn draw(
     low: u16,
     pile: Pile,
     tables: Tables,
-    preds: &Predecessors,
+    preds: Incoming,
     desk: &mut Desk,
     winners: &mut [Winner],
     moves: &mut [u16],
     work: &mut [u16],
 ) -> Pile
-    requires { Drawable x u pile.tail (asked tables) preds.now.ins preds.now.froms desk.old winners.old moves.old work.old }
-    ensures { Drawn result.tail (lent tables) preds.now.ins preds.now.froms winners.old moves.old work.old desk.new winners.new moves.new work.new }
+    requires { Drawable x u pile.tail (asked tables) preds.ins.now preds.froms.now desk.old winners.old moves.old work.old }
+    ensures { Drawn result.tail (lent tables) preds.entry.ins.now preds.entry.froms.now winners.old moves.old work.old desk.new winners.new moves.new work.new }
 {
     let Some(line) = offer(x, u, low, tables, desk, winners, work) else {
         return pile;
@@ -43,32 +42,32 @@ fn draw(
         moves,
         work,
     );
-    let above = tables.priorities[x] as usize + 1;
+    let above = usize::from(tables.priorities[x]) + 1;
     Pile {
         tail: push(x, desk, pile.tail),
         top: pile.top.max(above),
     }
 }
 
-// Draws every vertex from which an edge leads to u.
+// Draws every vertex from which an edge leads to u. By their places, as `reach::closure` goes over them.
 pub fn visit(
     u: usize,
     low: u16,
     pile: Pile,
     tables: Tables,
-    preds: &Predecessors,
+    preds: Incoming,
     desk: &mut Desk,
     winners: &mut [Winner],
     moves: &mut [u16],
     work: &mut [u16],
 ) -> Pile
-    requires { DrawVisitable u pile.tail (asked tables) preds.now.ins preds.now.froms desk.old winners.old moves.old work.old }
-    ensures { Drawn result.tail (lent tables) preds.now.ins preds.now.froms winners.old moves.old work.old desk.new winners.new moves.new work.new }
+    requires { DrawVisitable u pile.tail (asked tables) preds.ins.now preds.froms.now desk.old winners.old moves.old work.old }
+    ensures { Drawn result.tail (lent tables) preds.entry.ins.now preds.entry.froms.now winners.old moves.old work.old desk.new winners.new moves.new work.new }
 {
     let mut drawn = pile;
-    for i in wide(preds.ins[u])..wide(preds.ins[u + 1]) {
+    for i in usize::from(preds.ins[u])..usize::from(preds.ins[u + 1]) {
         drawn = draw(
-            wide(preds.froms[i]),
+            usize::from(preds.froms[i]),
             u,
             low,
             drawn,

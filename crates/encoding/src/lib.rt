@@ -8,7 +8,7 @@ ghost use Rattle.format.specs.promise.Format.{plain, used_of, body_byte, block_b
 ghost use Rattle.format.specs.parts.Put.{Put, Begun};
 ghost use Rattle.encoding.specs.parts.Encoding.{Encodes};
 
-use format::extent::{kind_of, used_of, vertex_blocks};
+use format::extent::{BlockKind, kind_of, used_of, vertex_blocks};
 use game::tables::Tables;
 use pieces::frame::{clear, name, seal};
 use pieces::payload::{header, run_targets, run_vertices};
@@ -18,16 +18,15 @@ fn payload(tables: Tables, b: usize, part: &mut [u8])
     requires { Encodes (asked tables) b part.old }
     ensures { Put 6 (6 + used_of (vertices (lent tables)) (length (lent tables).targets) b) (body_byte (plain (lent tables)) b) part.old part.new }
 {
-    if b == 0 {
-        header(tables, part);
-        return;
+    let n = tables.vertices();
+    match kind_of(n, b) {
+        BlockKind::Header => header(tables, part),
+        BlockKind::Vertices => run_vertices(tables, 126 * (b - 1), part),
+        BlockKind::Targets => {
+            let first = 252 * (b - 1 - vertex_blocks(n));
+            run_targets(tables.targets, first, part);
+        }
     }
-    let blocks = vertex_blocks(tables.vertices());
-    if b <= blocks {
-        run_vertices(tables, 126 * (b - 1), part);
-        return;
-    }
-    run_targets(tables.targets, 252 * (b - 1 - blocks), part);
 }
 
 // Every byte but the check's is put once; then the check reads them once.
@@ -37,7 +36,7 @@ pub fn block(tables: Tables, b: usize, part: &mut [u8])
 {
     let n = tables.vertices();
     let used = used_of(n, tables.targets.len(), b);
-    name(part, b, kind_of(n, b), used);
+    name(part, b, kind_of(n, b) as u8, used);
     payload(tables, b, part);
     clear(part, 6 + used);
     seal(part);

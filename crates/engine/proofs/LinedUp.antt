@@ -8,9 +8,7 @@ use Rattle.game.specs.promise.Tables.{game_of, Tables, vertices}
 use Rattle.storage.specs.promise.Answer.{mark_of, move_of}
 use Rattle.justification.specs.parts.Safe.{Safe}
 use Rattle.lists.specs.parts.Cells.{Filled}
-use Rattle.space.specs.parts.Work.{nil}
 use Rattle.space.specs.declared.desk.Desk.{Desk}
-use Rattle.space.specs.parts.Desk.{Laid}
 use Rattle.waiting.specs.parts.Moves.{Fillable, FilledIn}
 use Rattle.levels.specs.parts.Levels.{settled_of, ByPriority}
 use Rattle.levels.proofs.Floors.{priority_levelled}
@@ -19,12 +17,6 @@ use Rattle.draw.specs.parts.Drawing.{Drainable}
 use Rattle.pile.proofs.Piles.{piled_none}
 use Rattle.engine.specs.parts.Settling.{NoLines, Settleable}
 use Rattle.rounds.specs.parts.Settled.{SettledTo}
-
--- the lines below k are empty
-pub record Emptying (d₀ d : Desk) (k : ℕ) : Type 0 where
-  pub laid : Laid d
-  pub below : (j : ℕ) → j < k → get_or d.firsts j 0 ≡ nil
-  pub waiting : d.waiting ≡ d₀.waiting
 
 module _ {tables : Tables} {ins froms winners moves work : List ℕ} (s : Settleable tables ins froms winners moves work) where
   bytes : (v : ℕ) → v < vertices tables → get_or tables.priorities v 0 < 256

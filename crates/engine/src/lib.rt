@@ -2,14 +2,13 @@
 #![tactic(auto)]
 
 ghost use Rattle.game.specs.promise.Lent.{asked, lent};
-ghost use Rattle.space.specs.parts.Desk.{Laid};
 ghost use Rattle.engine.specs.parts.Settling.{NoLines, Settleable};
 ghost use Rattle.rounds.specs.parts.Settled.{SettledTo};
 
 use game::NONE;
 use game::tables::Tables;
 use levels::by_priority;
-use preds::Predecessors;
+use preds::Incoming;
 use rounds::run;
 use space::desk::Desk;
 use storage::Winner;
@@ -17,23 +16,20 @@ use waiting::line_up;
 
 // Nobody stands in any line.
 fn no_lines(desk: &mut Desk)
-    requires { Laid desk.old }
     ensures { NoLines desk.old desk.new }
 {
-    for k in 0..256 {
-        desk.set_first(k, NONE);
-    }
+    desk.firsts.fill(NONE);
 }
 
 // Settles what is open; no line of a kept set changes.
 pub fn settle(
     tables: Tables,
-    preds: &Predecessors,
+    preds: Incoming,
     winners: &mut [Winner],
     moves: &mut [u16],
     work: &mut [u16],
 )
-    requires { Settleable (asked tables) preds.now.ins preds.now.froms winners.old moves.old work.old }
+    requires { Settleable (asked tables) preds.ins.now preds.froms.now winners.old moves.old work.old }
     ensures { SettledTo (lent tables) winners.old moves.old work.old winners.new moves.new work.new }
 {
     let n = tables.owners.len();

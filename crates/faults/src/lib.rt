@@ -3,12 +3,12 @@
 
 ghost use Rattle.std.specs.Prelude.{ℕ, ◌<◌, length, get_or};
 ghost use Rattle.refusal.specs.parts.Found.{Finds};
-ghost use Rattle.game.specs.promise.Tables.{Placed, vertices};
+ghost use Rattle.game.specs.promise.Tables.{Placed};
 ghost use Rattle.game.specs.promise.Faults.{Fault1, Fault2, Fault3, Fault4, Fault5, Fault6, Fault7, Descent};
-ghost use Rattle.game.specs.promise.Lent.{asked, lent};
+ghost use Rattle.game.specs.promise.Lent.{lent};
 
 use game::tables::Tables;
-use game::vertex::wide;
+use game::vertex::successors;
 use game::{EDGES, VERTICES};
 use player::Player;
 
@@ -41,7 +41,8 @@ pub fn priority(priorities: &[u8]) -> Option<usize>
     priorities.iter().position(|&priority| priority == 255)
 }
 
-// 4: starts that do not cut the targets into stretches.
+// 4: starts that do not cut the targets into stretches. They may be equal, so this is not `descent`: a closure for `<` and `<=` would have to say in its
+// contract what the two say here.
 pub fn start(starts: &[u16], targets: &[u16]) -> Option<usize>
     requires { 0 < length starts.now }
     ensures { Finds (Fault4 starts.now targets.now) result }
@@ -55,19 +56,19 @@ pub fn start(starts: &[u16], targets: &[u16]) -> Option<usize>
         }
     }
     let last = starts.len() - 1;
-    if wide(starts[last]) != targets.len() {
+    if usize::from(starts[last]) != targets.len() {
         return Some(last);
     }
     None
 }
 
-// 5: a vertex with no successor.
-pub fn stuck(tables: Tables) -> Option<usize>
-    requires { Placed (vertices (asked tables)) (asked tables).starts (asked tables).targets }
-    ensures { Finds (Fault5 (vertices (lent tables)) (lent tables).starts (lent tables).targets) result }
+// 5: a vertex with no successor. This and 7 ask nothing of owners and priorities, so they take no `Tables`.
+pub fn stuck(n: usize, starts: &[u16], targets: &[u16]) -> Option<usize>
+    requires { Placed n starts.now targets.now }
+    ensures { Finds (Fault5 n starts.now targets.now) result }
 {
-    for v in 0..tables.vertices() {
-        if tables.successors(v).is_empty() {
+    for v in 0..n {
+        if successors(starts, targets, v).is_empty() {
             return Some(v);
         }
     }
@@ -78,7 +79,7 @@ pub fn stuck(tables: Tables) -> Option<usize>
 pub fn target(n: usize, targets: &[u16]) -> Option<usize>
     ensures { Finds (Fault6 n targets.now) result }
 {
-    targets.iter().position(|&target| wide(target) >= n)
+    targets.iter().position(|&target| usize::from(target) >= n)
 }
 
 // The first number of a stretch that is not above the one before it.
@@ -89,13 +90,13 @@ fn descent(stretch: &[u16]) -> Option<usize>
 }
 
 // 7: a stretch that does not ascend.
-pub fn order(tables: Tables) -> Option<usize>
-    requires { Placed (vertices (asked tables)) (asked tables).starts (asked tables).targets }
-    ensures { Finds (Fault7 (vertices (lent tables)) (lent tables).starts (lent tables).targets) result }
+pub fn order(n: usize, starts: &[u16], targets: &[u16]) -> Option<usize>
+    requires { Placed n starts.now targets.now }
+    ensures { Finds (Fault7 n starts.now targets.now) result }
 {
-    for v in 0..tables.vertices() {
-        if let Some(i) = descent(tables.successors(v)) {
-            return Some(wide(tables.starts[v]) + i);
+    for v in 0..n {
+        if let Some(i) = descent(successors(starts, targets, v)) {
+            return Some(usize::from(starts[v]) + i);
         }
     }
     None

@@ -1,11 +1,21 @@
--- The kind of a block and how much of its payload is used, by where the block stands.
-use Prim.Native.Nat.{ℕ, zero, suc, ◌-◌, ◌*◌, ◌<◌, ◌≤◌, min}
+-- The kind of a block as a byte, and how much of its payload is used, by where the block stands.
+use Prim.Native.Nat.{ℕ, zero, suc, ◌+◌, ◌-◌, ◌*◌, ◌<◌, ◌≤◌, min}
 use mathlib.Core.Path.{◌≡◌, refl, ap, sym, subst, ◌∙◌}
 use mathlib.Core.Bool.{Bool}
 use native.Mathlib.Omega.{arith}
 use native.Mathlib.Decide.{ℕ_discrete, dec_le}
 use borrow.Author.Tests.{lt-ltb, le-ltb}
+use denote.Enum.Declared.{tag_of}
+use Rattle.format.specs.declared.extent.BlockKind.{BlockKind}
+use Rattle.format.specs.declared.extent.BlockKind.TheVariants as kind
+use Rattle.format.specs.contracts.extent.BlockKind.{the_type}
 use Rattle.format.specs.promise.Format.{pick, used_of, vertex_blocks}
+use Rattle.format.specs.parts.Kinds.{kind_number}
+
+pub kind_byte : (k : BlockKind) → tag_of the_type k + 1 ≡ kind_number k
+kind_byte kind.Header = refl
+kind_byte kind.Vertices = refl
+kind_byte kind.Targets = refl
 
 pub used_vertex : (n m b : ℕ) → ¬ (b ≡ 0) → b ≤ vertex_blocks n → used_of n m b ≡ min 504 (4 * n - 504 * (b - 1))
 used_vertex n m zero some l = absurd (some refl)

@@ -1,2 +1,3 @@
 pub mod Tests
 pub mod Put
+pub mod Kinds

@@ -1,4 +1,4 @@
-// A block's check.
+// A block's check. The whole file and a place, not a part of it: the rows that judge a file speak of its bytes.
 ghost use Rattle.std.specs.Prelude.{◌≡◌, ◌+◌, ◌≤◌, length};
 ghost use Rattle.format.specs.promise.Format.{check_of};
 ghost use Rattle.format.specs.promise.Filed.{byte_at};
@@ -11,7 +11,7 @@ fn weigh(file: &[u8], from: usize) -> usize
 {
     let mut sum: usize = 0;
     for i in 0..510 {
-        sum += (i + 1) * file[from + i] as usize;
+        sum += (i + 1) * usize::from(file[from + i]);
     }
     sum
 }

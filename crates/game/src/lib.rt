@@ -5,7 +5,7 @@ pub mod buffers;
 pub mod tables;
 pub mod vertex;
 
-// The most vertices and the most edges that a game may have, and what stands for none: no move, nobody.
+// The most vertices and the most edges that a game may have, and what stands for none in a cell: no move, nobody behind. C lends those cells.
 pub const VERTICES: usize = 2048;
 
 pub const EDGES: usize = 16384;

@@ -1,4 +1,5 @@
-// A game's tables, as they are lent.
+// A game's tables, as they are lent. That they are well formed is a fact beside them and no invariant: they are judged as they come, and the functions that ask it
+// promise for any tables of which it is known.
 ghost use Rattle.std.specs.Prelude.{◌≡◌, ◌<◌, length};
 ghost use Rattle.player.specs.promise.Player.{IsPlayer};
 ghost use Rattle.player.specs.promise.Named.{bit_of};
@@ -6,7 +7,7 @@ ghost use Rattle.game.specs.promise.Tables.{game_of, vertices};
 ghost use Rattle.game.specs.promise.Lent.{asked, lent};
 ghost use Rattle.game.specs.parts.Stretch.{Stretch};
 
-use crate::vertex::wide;
+use crate::vertex::successors;
 use player::Player;
 
 // An owner and a priority for each vertex; where each vertex's stretch of the targets starts, and where the last ends; all targets.
@@ -26,7 +27,7 @@ impl<'a> Tables<'a> {
         self.owners.len()
     }
 
-    // v's owner, who is a player.
+    // v's owner, who is a player: `try_from` would answer for a third case too, which there is not.
     pub fn owner(self, v: usize) -> Player
         requires { (v < vertices (asked self)) × IsPlayer ((game_of (asked self)).owner v) }
         ensures { bit_of result ≡ (game_of (lent self)).owner v }
@@ -43,8 +44,6 @@ impl<'a> Tables<'a> {
         requires { Stretch (asked self).starts (asked self).targets v }
         ensures { result.now ≡ (game_of (lent self)).next v }
     {
-        let from = wide(self.starts[v]);
-        let upto = wide(self.starts[v + 1]);
-        &self.targets[from..upto]
+        successors(self.starts, self.targets, v)
     }
 }

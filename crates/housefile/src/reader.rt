@@ -2,16 +2,17 @@
 ghost use Rattle.std.specs.Prelude.{◌≡◌, ◌≤◌, length};
 ghost use Rattle.refusal.specs.parts.Found.{Finds};
 ghost use Rattle.game.specs.promise.Tables.{tables_of};
-ghost use Rattle.game.specs.promise.Lent.{Fault8, asked, lent, written};
+ghost use Rattle.game.specs.promise.Lent.{Fault8, written};
 ghost use Rattle.format.specs.promise.Filed.{vertices_filed, edges_filed};
+ghost use Rattle.decoding.specs.parts.Rooms.{whole};
 ghost use Rattle.housefile.specs.promise.Faults.{lent_lengths};
 ghost use Rattle.housefile.specs.promise.Reading.{Reads, read_said};
 ghost use Rattle.housefile.specs.parts.Storing.{SameLengths, Stored};
 
 use crate::Header;
+use decoding::room::{Room, STARTS};
 use format::bytes;
 use game::buffers::compare;
-use game::tables::Tables;
 use game::{EDGES, VERTICES};
 use loading::judge::judge;
 use refusal::{Kind, Refusal, refuse};
@@ -21,26 +22,26 @@ fn lengths(owners: usize, priorities: usize, starts: usize, targets: usize) -> O
     ensures { Finds (Fault8 (lent_lengths owners priorities starts targets)) result }
 {
     let edges = compare(None, targets, EDGES);
-    let bounds = compare(edges, starts, 2049);
+    let bounds = compare(edges, starts, STARTS);
     let ranks = compare(bounds, priorities, VERTICES);
     compare(ranks, owners, VERTICES)
 }
 
-// Four tables over the lent ones of their lengths.
+// What the room holds, over the lent tables of its lengths: four lists, as C lends them.
 fn store(
-    from: Tables,
+    room: &Room,
     owners: &mut [u8],
     priorities: &mut [u8],
     starts: &mut [u16],
     targets: &mut [u16],
 )
-    requires { SameLengths (asked from) (tables_of owners.old priorities.old starts.old targets.old) }
-    ensures { Stored (lent from) (written owners priorities starts targets) }
+    requires { SameLengths (whole room.now) (tables_of owners.old priorities.old starts.old targets.old) }
+    ensures { Stored (whole room.now) (written owners priorities starts targets) }
 {
-    owners.copy_from_slice(from.owners);
-    priorities.copy_from_slice(from.priorities);
-    starts.copy_from_slice(from.starts);
-    targets.copy_from_slice(from.targets);
+    owners.copy_from_slice(&room.owners);
+    priorities.copy_from_slice(&room.priorities);
+    starts.copy_from_slice(&room.starts);
+    targets.copy_from_slice(&room.targets);
 }
 
 // What is said of a file that is read.
@@ -54,7 +55,7 @@ fn header(file: &[u8]) -> Header
     }
 }
 
-// The lent tables are written only once every refusal is excluded: what is judged is read into tables of the reader's own.
+// The lent tables are written only once every refusal is excluded: what is judged is read into a room of the reader's own.
 pub fn read(
     file: &[u8],
     owners: &mut [u8],
@@ -64,21 +65,12 @@ pub fn read(
 ) -> Result<Header, Refusal>
     ensures { Reads file.now (tables_of owners.old priorities.old starts.old targets.old) (written owners priorities starts targets) (read_said result) }
 {
-    let mut own = [0u8; VERTICES];
-    let mut ranks = [0u8; VERTICES];
-    let mut bounds = [0u16; 2049];
-    let mut ends = [0u16; EDGES];
-    judge(file, &mut own, &mut ranks, &mut bounds, &mut ends)?;
+    let mut room = Room::blank();
+    judge(file, &mut room)?;
     refuse(
         lengths(owners.len(), priorities.len(), starts.len(), targets.len()),
         Kind::Buffer,
     )?;
-    let judged = Tables {
-        owners: &own,
-        priorities: &ranks,
-        starts: &bounds,
-        targets: &ends,
-    };
-    store(judged, owners, priorities, starts, targets);
+    store(&room, owners, priorities, starts, targets);
     Ok(header(file))
 }

@@ -10,15 +10,22 @@ ghost use Rattle.game.specs.promise.Tables.{WellFormed};
 ghost use Rattle.game.specs.promise.Faults.{table_rows};
 ghost use Rattle.game.specs.promise.Lent.{lent};
 ghost use Rattle.storage.specs.promise.Lent.{claimed};
-ghost use Rattle.inputs.specs.promise.Inputs.{Fault9, input_of, second_rows, test_rows};
+ghost use Rattle.inputs.specs.promise.Inputs.{Fault9, handed, second_rows, test_rows};
 
 use game::buffers::compare;
 use game::tables::Tables;
 use refusal::{Kind, Refusal, refuse};
-use storage::Winner;
-use storage::answer::cells;
+use storage::answer::{Answer, cells};
 use storage::lent::lengths;
 use tables::test_tables;
+
+// What is handed to an update: the first game, the amended one, and an answer to the first.
+#[derive(Clone, Copy)]
+pub struct Input<'a> {
+    pub first: Tables<'a>,
+    pub second: Tables<'a>,
+    pub old: Answer<'a>,
+}
 
 // A refusal of a game's tables as one of the second game's.
 fn in_second(refusal: Refusal) -> Refusal
@@ -50,23 +57,18 @@ fn same_size(n: usize, m: usize) -> Option<usize>
 }
 
 // The first of 1 to 7, 21 to 27, 9 and 8 that applies, or that none does.
-pub fn test_input(
-    first: Tables,
-    second: Tables,
-    old_winners: &[Winner],
-    old_moves: &[u16],
-    winners: &[Winner],
-    moves: &[u16],
-    work: &[u16],
-) -> Result<(), Refusal>
-    ensures gives { Gives (test_rows (input_of (lent first) (lent second) (claimed old_winners old_moves)) (record { answer = claimed winners moves; work = work.now })) (tested_said result) }
-    ensures formed { OnOk result (WellFormed (lent first) × WellFormed (lent second)) }
+pub fn test_input(input: Input, new: Answer, work: &[u16]) -> Result<(), Refusal>
+    ensures gives { Gives (test_rows (handed input) (record { answer = claimed new; work = work.now })) (tested_said result) }
+    ensures formed { OnOk result (WellFormed (handed input).first × WellFormed (handed input).second) }
 {
-    test_tables(first)?;
-    test_second(second)?;
-    let n = first.vertices();
-    refuse(same_size(n, second.vertices()), Kind::Vertices)?;
-    let lent = lengths(n, winners.len(), moves.len(), work.len());
-    let moved = compare(lent, old_moves.len(), n);
-    refuse(compare(moved, old_winners.len(), cells(n)), Kind::Buffer)
+    test_tables(input.first)?;
+    test_second(input.second)?;
+    let n = input.first.vertices();
+    refuse(same_size(n, input.second.vertices()), Kind::Vertices)?;
+    let lent = lengths(n, new.winners.len(), new.moves.len(), work.len());
+    let moved = compare(lent, input.old.moves.len(), n);
+    refuse(
+        compare(moved, input.old.winners.len(), cells(n)),
+        Kind::Buffer,
+    )
 }

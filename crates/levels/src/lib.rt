@@ -14,7 +14,7 @@ pub fn floor(t: usize, priorities: &[u8], desk: &Desk, work: &[u16]) -> u16
     if flag(priorities.len(), t, work) == 0 {
         return desk.level(t);
     }
-    priorities[t] as u16
+    u16::from(priorities[t])
 }
 
 // Every vertex's level is its priority, which is right in every safe state.
@@ -23,6 +23,6 @@ pub fn by_priority(priorities: &[u8], desk: &mut Desk)
     ensures { ByPriority priorities.now desk.old desk.new }
 {
     for (v, &priority) in priorities.iter().enumerate() {
-        desk.set_level(v, priority as u16);
+        desk.set_level(v, u16::from(priority));
     }
 }

@@ -10,7 +10,8 @@ use game::tables::Tables;
 use storage::Winner;
 use storage::vertex::test_vertex;
 
-// A line that a vertex may get: who wins it, his move, 65,535 where he does not own it, and a level.
+// A line that a vertex may get: who wins it, his move, 65,535 where he does not own it, and a level. Numbers, as their cells hold them: `step` and `turn`
+// promise for any mark and any move, and a `Player` or an `Option` here would take some of them away.
 #[derive(Clone, Copy, Debug, PartialEq, Eq)]
 pub struct Line {
     pub winner: u8,
@@ -25,7 +26,7 @@ pub fn test(v: usize, tables: Tables, winners: &[Winner]) -> Line
     ensures level { result.level ≡ get_or (lent tables).priorities v 0 }
 {
     let owner = tables.owner(v);
-    let level = tables.priorities[v] as u16;
+    let level = u16::from(tables.priorities[v]);
     match test_vertex(owner, tables.successors(v), winners) {
         Some(w) => Line {
             winner: u8::from(owner),

@@ -1,15 +1,17 @@
-// The lines of a listing, each appended to the text.
+// The lines of a listing, each appended to the text: by `text`, whose head says why not by `write!`. Owners, winners and moves are printed as they stand in
+// their cells. n stands beside the lists, which may be longer, and m is a number of the first line; no `Tables`, since a listing asks nothing of starts and
+// targets. The place stands beside the text (`text`'s head).
 #![tactic(auto)]
 
 ghost use Rattle.refusal.specs.promise.Number.{number_of};
+ghost use Rattle.storage.specs.promise.Lent.{claimed};
 ghost use Rattle.text.specs.parts.Append.{Room, Appended};
 ghost use Rattle.lines.specs.promise.Lines.{move_field, game_line, refused_line, vertex_line, vertex_lines, game_lines};
 ghost use Rattle.lines.specs.parts.Listable.{Listable};
 
 use game::NONE;
 use refusal::Refusal;
-use storage::Winner;
-use storage::answer::{mark, recorded};
+use storage::answer::{Answer, mark, recorded};
 use text::{byte, field, number, pair};
 
 // The first line of a game: vertices, edges.
@@ -25,7 +27,7 @@ pub fn refused_line(text: &mut [u8], r: Refusal) -> usize
     requires { Room text.old 0 (refused_line (number_of r.kind) r.place) }
     ensures { Appended text.old text.new 0 (refused_line (number_of r.kind) r.place) result }
 {
-    let number = refusal::number(r.kind);
+    let number = u64::from(r.kind);
     let place = r.place as u64;
     pair(text, 0, b"refused", number, place)
 }
@@ -38,7 +40,7 @@ fn move_field(text: &mut [u8], at: usize, to: u16) -> usize
     if to == NONE {
         return byte(text, at, b'-');
     }
-    number(text, at, to as u64)
+    number(text, at, u64::from(to))
 }
 
 fn vertex_line(
@@ -54,9 +56,9 @@ fn vertex_line(
     ensures { Appended text.old text.new at (vertex_line v owner priority winner to) result }
 {
     let a = field(text, at, v as u64, b' ');
-    let b = field(text, a, owner as u64, b' ');
-    let c = field(text, b, priority as u64, b' ');
-    let d = field(text, c, winner as u64, b' ');
+    let b = field(text, a, u64::from(owner), b' ');
+    let c = field(text, b, u64::from(priority), b' ');
+    let d = field(text, c, u64::from(winner), b' ');
     let e = move_field(text, d, to);
     byte(text, e, b'\n')
 }
@@ -66,18 +68,17 @@ fn vertex_lines(
     n: usize,
     owners: &[u8],
     priorities: &[u8],
-    winners: &[Winner],
-    moves: &[u16],
+    answer: Answer,
     text: &mut [u8],
     at: usize,
 ) -> usize
-    requires { Listable n owners.now priorities.now winners.now moves.now × Room text.old at (vertex_lines owners.now priorities.now winners.now moves.now n) }
-    ensures { Appended text.old text.new at (vertex_lines owners.now priorities.now winners.now moves.now n) result }
+    requires { Listable n owners.now priorities.now answer.winners.now answer.moves.now × Room text.old at (vertex_lines owners.now priorities.now answer.winners.now answer.moves.now n) }
+    ensures { Appended text.old text.new at (vertex_lines owners.now priorities.now (claimed answer).winners (claimed answer).moves n) result }
 {
     let mut next = at;
     for v in 0..n {
-        let winner = mark(winners, v);
-        let to = recorded(moves, v);
+        let winner = mark(answer.winners, v);
+        let to = recorded(answer.moves, v);
         next = vertex_line(v, owners[v], priorities[v], winner, to, text, next);
     }
     next
@@ -89,13 +90,12 @@ pub fn game_lines(
     m: usize,
     owners: &[u8],
     priorities: &[u8],
-    winners: &[Winner],
-    moves: &[u16],
+    answer: Answer,
     text: &mut [u8],
 ) -> usize
-    requires { Listable n owners.now priorities.now winners.now moves.now × Room text.old 0 (game_lines owners.now priorities.now winners.now moves.now n m) }
-    ensures { Appended text.old text.new 0 (game_lines owners.now priorities.now winners.now moves.now n m) result }
+    requires { Listable n owners.now priorities.now answer.winners.now answer.moves.now × Room text.old 0 (game_lines owners.now priorities.now answer.winners.now answer.moves.now n m) }
+    ensures { Appended text.old text.new 0 (game_lines owners.now priorities.now (claimed answer).winners (claimed answer).moves n m) result }
 {
     let at = game_line(text, n, m);
-    vertex_lines(n, owners, priorities, winners, moves, text, at)
+    vertex_lines(n, owners, priorities, answer, text, at)
 }

@@ -5,8 +5,7 @@ use mathlib.Core.Path.{◌≡◌, sym, ap, ap₂, subst, ◌∙◌}
 use mathlib.Core.Logic.{inl, inr}
 use mathlib.Core.List.{List, [], ◌∷◌}
 use native.Mathlib.Omega.{arith}
-use lib.ListN.{length, get_or, take}
-use lib.Seq.{length-take-le, get_or-take, ext_get_or}
+use lib.ListN.{length, get_or}
 use Rattle.refusal.specs.promise.Number.{number_of}
 use Rattle.refusal.specs.promise.Row.{row, First}
 use Rattle.refusal.specs.declared.Refusal.{Refusal}
@@ -19,7 +18,8 @@ use Rattle.format.specs.promise.Filed.{vertices_filed, edges_filed, rule_filed, 
 use Rattle.housefile.specs.promise.Faults.{table_sizes}
 use Rattle.format.specs.promise.Faults.{judged_rows}
 use Rattle.housefile.specs.promise.Reading.{Taken, read_said, Reads}
-use Rattle.decoding.specs.promise.Holding.{Padded}
+use Rattle.decoding.specs.promise.Holding.{used_parts}
+use Rattle.decoding.proofs.Padding.{padded_take}
 use Rattle.housefile.proofs.LentRows.{all_judged}
 use Rattle.format.proofs.Lists.{owners_long, priorities_long, starts_long, targets_long}
 use Rattle.format.proofs.Turning.{turned_long}
@@ -27,27 +27,9 @@ use Rattle.housefile.proofs.Exactly.{read_well_formed}
 use Rattle.lines.specs.promise.Lines.{refused_line}
 use Rattle.listing.specs.promise.Listing.{game_text, SetDown}
 use Rattle.text.specs.parts.Append.{Room, Appended}
-use Rattle.listing.specs.parts.Answering.{front_of, Tabled, AnswerListed, Tellable, Told}
+use Rattle.listing.specs.parts.Answering.{Tabled, AnswerListed, Tellable, Told}
 use Rattle.text.proofs.Appending.{appended_within}
 use Rattle.lines.proofs.Widths.{refused_line_most}
-
--- the used part of a table that holds a list is the list
-used : (size : ℕ) (list table : List ℕ) (k : ℕ) → Padded size list table → length list ≡ k → k ≤ size → take k table ≡ list
-used size list table k h e l =
-    let long : length (take k table) ≡ k = length-take-le k table (omega (arith, h.long)) in
-    ext_get_or 0 (take k table) list (long ∙ sym e) (λ i m. get_or-take k table i 0 (omega arith) ∙ h.same i)
-
--- by the case that was read, what its telling needs and gives
-
-pub game_tabled : (said : Result Header Refusal) (t : Tables) (h : Header) → said ≡ Ok h → Tellable said t → Tabled h.vertices h.edges t
-game_tabled said t h e = subst (λ (x : Result Header Refusal). Tellable x t) e
-
-module _ (said : Result Header Refusal) (t : Tables) where
-  pub told_game : {before after : List ℕ} {r : ℕ} (h : Header) → said ≡ Ok h → AnswerListed (front_of h.vertices h.edges t) before after r → Told said t before after r
-  told_game {before} {after} {r} h e = subst (λ (x : Result Header Refusal). Told x t before after r) (sym e)
-
-  pub told_refused : {before after : List ℕ} {r : ℕ} (f : Refusal) → said ≡ Err f → Appended before after 0 (refused_line (number_of f.kind) f.place) r → Told said t before after r
-  told_refused {before} {after} {r} f e = subst (λ (x : Result Header Refusal). Told x t before after r) (sym e)
 
 -- the line of a refusal fits
 pub refused_room : (text : List ℕ) (number place : ℕ) → length text ≡ 36880 → Room text 0 (refused_line number place)
@@ -71,12 +53,12 @@ module _ (file : List ℕ) (before after : Tables) (bytes : (i : ℕ) → get_or
     edges_few : h.edges ≤ 16384
     edges_few = omega (arith, m_is, targets_long file, well.edges)
 
-    front_is : front_of h.vertices h.edges after ≡ tables_filed file
+    front_is : used_parts h.vertices h.edges after ≡ tables_filed file
     front_is =
-        let o = used 2048 _ after.owners h.vertices d.holds.owners (owners_long file ∙ sym n_is) few in
-        let p = used 2048 _ after.priorities h.vertices d.holds.priorities (turned_long (rule_filed file) (priorities_filed file) ∙ priorities_long file ∙ sym n_is) few in
-        let s = used 2049 _ after.starts (h.vertices + 1) d.holds.starts (starts_long file ∙ ap (λ (k : ℕ). k + 1) (sym n_is)) (omega (arith, few)) in
-        let e = used 16384 _ after.targets h.edges d.holds.targets (targets_long file ∙ sym m_is) edges_few in
+        let o = padded_take h.vertices (n_is ∙ sym (owners_long file)) few d.holds.owners in
+        let p = padded_take h.vertices (n_is ∙ sym (turned_long (rule_filed file) (priorities_filed file) ∙ priorities_long file)) few d.holds.priorities in
+        let s = padded_take (h.vertices + 1) (omega (arith, n_is, starts_long file)) (omega (arith, few)) d.holds.starts in
+        let e = padded_take h.edges (m_is ∙ sym (targets_long file)) edges_few d.holds.targets in
         λ i. tables_of (o i) (p i) (s i) (e i)
 
     tabled : Tabled h.vertices h.edges after
@@ -89,7 +71,7 @@ module _ (file : List ℕ) (before after : Tables) (bytes : (i : ℕ) → get_or
           well_formed = subst (λ (t : Tables). WellFormed t) (sym front_is) well;
         }
 
-    game_set_down : {text text' : List ℕ} {r : ℕ} → AnswerListed (front_of h.vertices h.edges after) text text' r → SetDown file text text' r
+    game_set_down : {text text' : List ℕ} {r : ℕ} → AnswerListed (used_parts h.vertices h.edges after) text text' r → SetDown file text text' r
     game_set_down {text} {text'} {r} a =
         let b : AnswerListed (tables_filed file) text text' r = subst (λ (t : Tables). AnswerListed t text text' r) front_is a in
         record {

@@ -1,20 +1,24 @@
 // The listing of a file: read, solved, and set down as text.
-ghost use Rattle.std.specs.Prelude.{◌≡◌, length};
 ghost use Rattle.game.specs.promise.Tables.{WellFormed};
 ghost use Rattle.game.specs.promise.Lent.{asked, lent};
 ghost use Rattle.storage.specs.promise.Lent.{buffers, left};
+ghost use Rattle.decoding.specs.parts.Rooms.{whole};
 ghost use Rattle.listing.specs.promise.Listing.{SetDown};
 ghost use Rattle.listing.specs.parts.Answering.{Solvable, Solution, AnswerListed, Tellable, Told};
 
+use decoding::room::Room;
+use game::VERTICES;
 use game::tables::Tables;
-use game::{EDGES, VERTICES};
 use housefile::Header;
 use housefile::reader::read;
 use lines::{game_lines, refused_line};
 use refusal::Refusal;
 use solver::solve;
-use storage::answer::cells;
+use storage::answer::{Answer, cells};
 use storage::{WINNERS, Winner};
+
+// How many bytes the longest listing may have: 16 for the first line and 18 for each of the most vertices.
+pub const TEXT: usize = 36880;
 
 // Solves a well-formed game, with all that is lent of the right length: the solver does not refuse it.
 fn answer(tables: Tables, winners: &mut [Winner], moves: &mut [u16], work: &mut [u16])
@@ -24,9 +28,9 @@ fn answer(tables: Tables, winners: &mut [Winner], moves: &mut [u16], work: &mut 
     solve(tables, winners, moves, work).unwrap();
 }
 
-// The lines of a game, with its answer: 16 bytes at most for the first line and 18 for each vertex.
-fn listed(tables: Tables, text: &mut [u8]) -> usize
-    requires { WellFormed (asked tables) × (length text.old ≡ 36880) }
+// The lines of a game, with its answer.
+fn listed(tables: Tables, text: &mut [u8; TEXT]) -> usize
+    requires { WellFormed (asked tables) }
     ensures { AnswerListed (lent tables) text.old text.new result }
 {
     let mut winners = [0 as Winner; WINNERS];
@@ -46,53 +50,36 @@ fn listed(tables: Tables, text: &mut [u8]) -> usize
         tables.targets.len(),
         tables.owners,
         tables.priorities,
-        &winners,
-        &moves,
+        Answer {
+            winners: &winners,
+            moves: &moves,
+        },
         text,
     )
 }
 
-// What the reader says, as text: the lines of the game at the tables' beginnings, or the line of a refusal.
-fn told(taken: Result<Header, Refusal>, tables: Tables, text: &mut [u8]) -> usize
-    requires { Tellable taken (asked tables) × (length text.old ≡ 36880) }
-    ensures { Told taken (lent tables) text.old text.new result }
+// What the reader says, as text: the lines of the game that the room holds, or the line of a refusal.
+fn told(taken: Result<Header, Refusal>, room: &Room, text: &mut [u8; TEXT]) -> usize
+    requires { Tellable taken (whole room.now) }
+    ensures { Told taken (whole room.now) text.old text.new result }
 {
     match taken {
-        Ok(h) => {
-            let n = h.vertices;
-            let game = Tables {
-                owners: &tables.owners[..n],
-                priorities: &tables.priorities[..n],
-                starts: &tables.starts[..n + 1],
-                targets: &tables.targets[..h.edges],
-            };
-            listed(game, text)
-        }
+        Ok(h) => listed(room.cut(h.vertices, h.edges), text),
         Err(r) => refused_line(text, r),
     }
 }
 
 // Sets the listing of the file down in the text and returns how many bytes it has.
-pub fn list(file: &[u8], text: &mut [u8]) -> usize
-    requires { length text.old ≡ 36880 }
+pub fn list(file: &[u8], text: &mut [u8; TEXT]) -> usize
     ensures { SetDown file.now text.old text.new result }
 {
-    let mut owners = [0u8; VERTICES];
-    let mut priorities = [0u8; VERTICES];
-    let mut starts = [0u16; 2049];
-    let mut targets = [0u16; EDGES];
+    let mut room = Room::blank();
     let taken = read(
         file,
-        &mut owners,
-        &mut priorities,
-        &mut starts,
-        &mut targets,
+        &mut room.owners,
+        &mut room.priorities,
+        &mut room.starts,
+        &mut room.targets,
     );
-    let tables = Tables {
-        owners: &owners,
-        priorities: &priorities,
-        starts: &starts,
-        targets: &targets,
-    };
-    told(taken, tables, text)
+    told(taken, &room, text)
 }

@@ -3,20 +3,16 @@
 
 mod list;
 
-ghost use Rattle.std.specs.Prelude.{◌≤◌, length};
-
-use crate::list::list;
+use crate::list::{TEXT, list};
 
 const STANDARD_INPUT: i32 = 0;
 
 const STANDARD_OUTPUT: i32 = 1;
 
-// Prints the listing of the first n bytes, in one write.
-fn show(file: &[u8], n: usize)
-    requires { n ≤ length file.now }
-{
-    let mut text = [0u8; 36880];
-    let k = list(&file[..n], &mut text);
+// Prints the listing of a file, in one write.
+fn show(file: &[u8]) {
+    let mut text = [0u8; TEXT];
+    let k = list(file, &mut text);
     io::write_all(STANDARD_OUTPUT, &text[..k]);
 }
 
@@ -24,5 +20,5 @@ fn show(file: &[u8], n: usize)
 fn main() {
     let mut file = [0u8; 43520];
     let n = io::read_full(STANDARD_INPUT, &mut file);
-    show(&file, n);
+    show(&file[..n]);
 }

@@ -1,14 +1,19 @@
 -- A store into a list, and a list that is filled cell by cell.
 use Prim.Native.Nat.{ℕ, ◌+◌, ◌<◌, ◌≤◌}
-use mathlib.Core.Path.{◌≡◌, refl, sym, subst, ◌∙◌}
+use mathlib.Core.Path.{◌≡◌, refl, sym, subst, ap, ◌∙◌}
 use mathlib.Core.Logic.{◌≢◌}
 use mathlib.Core.List.{List}
 use native.Mathlib.Omega.{arith}
 use native.Mathlib.Decide.{ℕ_discrete}
 use native.Mathlib.Nat.{not-suc-le-zero}
-use lib.ListN.{length, get_or, set, length-set}
+use lib.ListN.{length, get_or, set, replicate, length-set, length-replicate, get_or-replicate}
 use lib.Seq.{get_or-set_same, get_or-set_other}
 use Rattle.lists.specs.parts.Cells.{Filled}
+
+-- copies of a value fill a list
+pub filled_copies : {value : ℕ} {cells : List ℕ} (n : ℕ) → cells ≡ replicate n value → Filled cells value
+filled_copies {value} {cells} n e =
+    record { all = λ i l. subst (λ (c : List ℕ). get_or c i 0 ≡ value) (sym e) (get_or-replicate n i value 0 (omega (arith, ap length e, length-replicate n value))) }
 
 -- what holds of the new value at its place, and of the old values elsewhere, holds after the store
 pub at_set : (P : ℕ → ℕ → Type 0) (l : List ℕ) (i v : ℕ) → i < length l → P i v → (k : ℕ) → (k ≢ i → P k (get_or l k 0)) → P k (get_or (set l i v) k 0)

@@ -6,7 +6,6 @@ ghost use Rattle.offer.specs.parts.Offering.{AllSeen, AllFor, Offerable, Offers}
 
 use game::NONE;
 use game::tables::Tables;
-use game::vertex::wide;
 use levels::floor;
 use line::Line;
 use space::desk::Desk;
@@ -14,7 +13,7 @@ use space::work::flag;
 use storage::Winner;
 use storage::answer::mark;
 
-// The least floor of the vertices of a stretch, if all are marked for `winner` and no floor is below `bound`.
+// The least floor of the vertices of a stretch, if all are marked for `winner` and no floor is below `bound`. A mark is a number, as its cell is.
 fn all_for(
     winner: u8,
     bound: u16,
@@ -27,9 +26,9 @@ fn all_for(
     requires { AllSeen stretch.now priorities.now desk.now winners.now work.now }
     ensures { AllFor winner bound stretch.now priorities.now desk.now.levels winners.now work.now result }
 {
-    let mut least: u16 = NONE;
+    let mut least = u16::MAX;
     for &to in stretch {
-        let t = wide(to);
+        let t = usize::from(to);
         if mark(winners, t) != winner {
             return None;
         }
@@ -59,8 +58,9 @@ pub fn offer(
     if flag(tables.priorities.len(), x, work) == 0 {
         return None;
     }
-    let bound = low.max(tables.priorities[x] as u16);
+    let bound = low.max(u16::from(tables.priorities[x]));
     let winner = mark(winners, u);
+    // Bytes are compared: an owner made a `Player` would be made a byte again.
     if tables.owners[x] == winner {
         let high = floor(u, tables.priorities, desk, work);
         if high < bound {

@@ -10,7 +10,7 @@ use attraction::attraction;
 use game::tables::Tables;
 use orders::Ended;
 use orders::lowest::lowest;
-use preds::Predecessors;
+use preds::Incoming;
 use space::desk::Desk;
 use storage::Winner;
 
@@ -37,16 +37,16 @@ pub fn round(
     order: Order,
     budget: usize,
     tables: Tables,
-    preds: &Predecessors,
+    preds: Incoming,
     desk: &mut Desk,
     winners: &mut [Winner],
     moves: &mut [u16],
     work: &mut [u16],
 ) -> Ended
-    requires { Drainable 0 (asked tables) preds.now.ins preds.now.froms desk.old winners.old moves.old work.old }
-    ensures { Ran (lent tables) preds.now.ins preds.now.froms winners.old moves.old work.old desk.new winners.new moves.new work.new result }
+    requires { Drainable 0 (asked tables) preds.ins.now preds.froms.now desk.old winners.old moves.old work.old }
+    ensures { Ran (lent tables) preds.entry.ins.now preds.entry.froms.now winners.old moves.old work.old desk.new winners.new moves.new work.new result }
 {
-    // No `match`: with one LLVM inlines less, and random games take a tenth more time to solve (measured).
+    // Two orders of one signature, so a branch and no closure. No `match`: with one LLVM inlines less, and random games take a tenth more time to solve (measured).
     if order == Order::Lowest {
         return lowest(budget, tables, preds, desk, winners, moves, work);
     }

@@ -8,7 +8,7 @@ use game::tables::Tables;
 use line::test;
 use pick::pick;
 use player::Player;
-use preds::Predecessors;
+use preds::Incoming;
 use space::desk::Desk;
 use storage::Winner;
 use turn::keep::keep;
@@ -19,14 +19,14 @@ use turn::turn;
 pub fn lowest(
     budget: usize,
     tables: Tables,
-    preds: &Predecessors,
+    preds: Incoming,
     desk: &mut Desk,
     winners: &mut [Winner],
     moves: &mut [u16],
     work: &mut [u16],
 ) -> Ended
-    requires { Engine (asked tables) preds.now.ins preds.now.froms desk.old winners.old moves.old work.old }
-    ensures ran { Ran (lent tables) preds.now.ins preds.now.froms winners.old moves.old work.old desk.new winners.new moves.new work.new result }
+    requires { Engine (asked tables) preds.ins.now preds.froms.now desk.old winners.old moves.old work.old }
+    ensures ran { Ran (lent tables) preds.entry.ins.now preds.entry.froms.now winners.old moves.old work.old desk.new winners.new moves.new work.new result }
     ensures fell { Fell budget (lent tables) winners.old work.old winners.new work.new result }
 {
     let n = tables.owners.len();
@@ -39,13 +39,13 @@ pub fn lowest(
         let own = tables.priorities[v];
         if line.winner == u8::from(Player::of_priority(own)) {
             keep(v, line, desk, moves, work);
-            low = own as usize;
+            low = usize::from(own);
         } else {
             low = turn(
                 tables.priorities.len(),
                 v,
                 line,
-                own as usize,
+                usize::from(own),
                 tables.priorities,
                 preds,
                 desk,

@@ -8,7 +8,7 @@ ghost use Rattle.pieces.specs.parts.Pieces.{Words, name_byte, zero_byte};
 use format::bytes::set_word;
 use format::weight::check_of;
 
-// Number, kind, zero, used count.
+// Number, kind, zero, used count. The kind is any byte, as the promise is for any.
 pub fn name(part: &mut [u8], b: usize, kind: u8, used: usize)
     requires { Words b used part.old }
     ensures { Put 0 6 (name_byte b kind used) part.old part.new }

@@ -19,7 +19,7 @@ pub fn header(tables: Tables, part: &mut [u8])
     part[10] = 0;
 }
 
-// Two functions, not one: a generic one would take a closure that puts an item, and its contract would have to say what the closure puts.
+// Two functions, not one over an item's width: an item's place would be the width times its index, and no law of two variables' product is found by itself.
 
 // 126 vertices from the first on, or what is left of them: owner, priority, number of successors.
 pub fn run_vertices(tables: Tables, first: usize, part: &mut [u8])

@@ -1,4 +1,5 @@
-// The vertices from which to attract next, the last first. They stand on the desk.
+// The vertices from which to attract next, the last first. They stand on the desk, and their number is handed on beside it, so that what writes another part of
+// the desk need not say that it stays.
 #![tactic(auto)]
 
 ghost use Rattle.pile.specs.parts.Pile.{Pushable, PushedOn};

@@ -16,6 +16,11 @@ pub enum Player {
 pub struct Nobody(pub u8);
 
 impl Player {
+    // The two by the names that the rules give them.
+    pub const EVEN: Player = Player::Even;
+
+    pub const ODD: Player = Player::Odd;
+
     // The other player.
     pub fn opponent(self) -> Player
         ensures { bit_of result ≡ opponent_of (bit_of self) }

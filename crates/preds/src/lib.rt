@@ -3,7 +3,7 @@
 
 mod build;
 
-pub use build::Predecessors;
+pub use build::{Incoming, Predecessors};
 
 // How many numbers say where the vertices' stretches start: one for each vertex, and one for where the last ends.
 pub const INS: usize = 2049;

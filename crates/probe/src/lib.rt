@@ -10,7 +10,7 @@ use attract::{Left, drain};
 use game::tables::Tables;
 use line::test;
 use pile::push;
-use preds::Predecessors;
+use preds::Incoming;
 use space::desk::Desk;
 use step::step;
 use storage::Winner;
@@ -20,17 +20,17 @@ pub fn probe(
     v: usize,
     budget: usize,
     tables: Tables,
-    preds: &Predecessors,
+    preds: Incoming,
     desk: &mut Desk,
     winners: &mut [Winner],
     moves: &mut [u16],
     work: &mut [u16],
 ) -> Left
-    requires { Probable v (asked tables) preds.now.ins preds.now.froms desk.old winners.old moves.old work.old }
+    requires { Probable v (asked tables) preds.ins.now preds.froms.now desk.old winners.old moves.old work.old }
     ensures left { (result.budget ≤ budget) × (0 < budget → result.budget < budget) }
-    ensures moved { Drawn 0 (lent tables) preds.now.ins preds.now.froms winners.old moves.old work.old desk.new winners.new moves.new work.new }
+    ensures moved { Drawn 0 (lent tables) preds.entry.ins.now preds.entry.froms.now winners.old moves.old work.old desk.new winners.new moves.new work.new }
 {
-    let own = tables.priorities[v] as usize;
+    let own = usize::from(tables.priorities[v]);
     let line = test(v, tables, winners);
     step(
         v,

@@ -1,11 +1,11 @@
-// The closure backwards: all vertices from which allowed steps lead to a seed, in a queue.
+// The closure backwards: all vertices from which allowed steps lead to a seed, in a queue. The queue stands in the lent work space, and its end is handed on
+// beside it: a struct of both would hold a `&mut`. Which steps count is data, a bound and a choice, and no closure: every promise here speaks of the two.
 ghost use Rattle.refusal.specs.parts.Says.{Says};
 ghost use Rattle.reach.specs.parts.Closure.{ToChoice};
 ghost use Rattle.reach.specs.parts.Queue.{SeedableIn, PushedIn, ClosableIn, ClosedIn, VisitableIn, VisitedIn, Triable, Tried, ClearableIn, ClearedIn};
 
 use game::NONE;
-use game::vertex::wide;
-use preds::Predecessors;
+use preds::Incoming;
 use space::work::{flag, queued, reached, set_queued, set_reached};
 
 // One more seed.
@@ -18,7 +18,8 @@ pub fn seed(n: usize, v: usize, work: &mut [u16], tail: usize) -> usize
     tail + 1
 }
 
-// Whether u may step to w: it has no choice, or w is its choice.
+// Whether u may step to w: it has no choice, or w is its choice. A choice is a cell of the lent moves. A list that ends before u has none for it, so an
+// empty list is no choice at all, and an `Option` of a list would say that a second time.
 fn may_step(u: usize, w: usize, choice: &[u16]) -> bool
     ensures { Says (ToChoice choice.now u w) result }
 {
@@ -29,7 +30,7 @@ fn may_step(u: usize, w: usize, choice: &[u16]) -> bool
     if fixed == NONE {
         return true;
     }
-    wide(fixed) == w
+    usize::from(fixed) == w
 }
 
 // u, from where an edge leads to w, becomes a seed if its step there is allowed and it is not reached yet; the result is the new tail.
@@ -57,22 +58,23 @@ fn try_step(
     tail
 }
 
-// Goes over the predecessors of w, reaches and queues where an allowed step starts, and returns the new tail.
+// Goes over the predecessors of w, reaches and queues where an allowed step starts, and returns the new tail. By their places, not as a part of `froms`:
+// `Backward` lets a stretch end before it begins, which a part may not.
 fn visit(
     n: usize,
     w: usize,
-    preds: &Predecessors,
+    preds: Incoming,
     bound: u16,
     choice: &[u16],
     work: &mut [u16],
     tail: usize,
 ) -> usize
-    requires { VisitableIn n w preds.now.ins preds.now.froms choice.now work.old tail }
-    ensures { VisitedIn n w preds.now.ins preds.now.froms choice.now bound work.old tail work.new result }
+    requires { VisitableIn n w preds.ins.now preds.froms.now choice.now work.old tail }
+    ensures { VisitedIn n w preds.entry.ins.now preds.entry.froms.now choice.now bound work.old tail work.new result }
 {
     let mut end = tail;
-    for i in wide(preds.ins[w])..wide(preds.ins[w + 1]) {
-        end = try_step(n, wide(preds.froms[i]), w, bound, choice, work, end);
+    for i in usize::from(preds.ins[w])..usize::from(preds.ins[w + 1]) {
+        end = try_step(n, usize::from(preds.froms[i]), w, bound, choice, work, end);
     }
     end
 }
@@ -80,20 +82,20 @@ fn visit(
 // Reaches whatever leads to the reached vertices by allowed steps; the result is the number of reached vertices.
 pub fn close(
     n: usize,
-    preds: &Predecessors,
+    preds: Incoming,
     bound: u16,
     choice: &[u16],
     work: &mut [u16],
     tail: usize,
 ) -> usize
-    requires { ClosableIn n preds.now.ins preds.now.froms choice.now work.old tail }
-    ensures { ClosedIn n preds.now.ins preds.now.froms choice.now bound work.old work.new result }
+    requires { ClosableIn n preds.ins.now preds.froms.now choice.now work.old tail }
+    ensures { ClosedIn n preds.entry.ins.now preds.entry.froms.now choice.now bound work.old work.new result }
 {
     let mut end = tail;
     let mut h = 0;
     // No `for`: the queue grows while it is read.
     while h < end {
-        let w = wide(queued(n, h, work));
+        let w = usize::from(queued(n, h, work));
         end = visit(n, w, preds, bound, choice, work, end);
         h += 1;
     }
@@ -106,7 +108,7 @@ pub fn clear(n: usize, work: &mut [u16], tail: usize)
     ensures { ClearedIn n work.old work.new }
 {
     for i in 0..tail {
-        let v = wide(queued(n, i, work));
+        let v = usize::from(queued(n, i, work));
         set_reached(n, v, 0, work);
     }
 }

@@ -1,41 +1,42 @@
 // After acceptance: what the amendment reaches is decided anew, the rest is kept.
 #![tactic(auto)]
 
-ghost use Rattle.game.specs.promise.Lent.{asked, lent};
-ghost use Rattle.storage.specs.promise.Lent.{claim, claimed, buffers, given, left};
-ghost use Rattle.inputs.specs.promise.Inputs.{input_of};
+ghost use Rattle.storage.specs.promise.Lent.{buffers, given, left};
+ghost use Rattle.inputs.specs.promise.Inputs.{asked_input, handed};
 ghost use Rattle.redo.specs.parts.Redoing.{Redoable, RedoneTo};
 
 use amend::marking::find_reached;
 use anew::decide;
 use game::VERTICES;
-use game::tables::Tables;
+use inputs::Input;
 use preds::Predecessors;
 use storage::Winner;
 
 // Finds what the amendment reaches, decides that anew, keeps the rest, and returns the number of the former. The second game's predecessor lists
-// are made in the lent ones.
+// are made in the lent ones. What is reached is bytes, as `start::kept` says.
 pub fn redo(
-    first: Tables,
-    second: Tables,
-    old_winners: &[Winner],
-    old_moves: &[u16],
+    input: Input,
     preds: &mut Predecessors,
     winners: &mut [Winner],
     moves: &mut [u16],
     work: &mut [u16],
 ) -> usize
-    requires { Redoable (input_of (asked first) (asked second) (claim old_winners old_moves)) (buffers winners moves work) preds.old.ins preds.old.froms }
-    ensures { RedoneTo (input_of (lent first) (lent second) (claimed old_winners old_moves)) (given winners moves work) (left winners moves work) result }
+    requires { Redoable (asked_input input) (buffers winners moves work) preds.old.ins preds.old.froms }
+    ensures { RedoneTo (handed input) (given winners moves work) (left winners moves work) result }
 {
-    preds.list(second);
+    preds.list(input.second);
     let mut reached = [0u8; VERTICES];
-    let count = find_reached(first, second, preds, &mut reached, work);
+    let count = find_reached(
+        input.first,
+        input.second,
+        preds.incoming(),
+        &mut reached,
+        work,
+    );
     decide(
-        second,
-        preds,
-        old_winners,
-        old_moves,
+        input.second,
+        preds.incoming(),
+        input.old,
         &reached,
         winners,
         moves,

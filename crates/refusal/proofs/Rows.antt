@@ -143,6 +143,16 @@ pub row_last : (rows : List Row) (P : ℕ → Type 0) {f : Option ℕ} {k : Kind
 row_last rows P {f} {k} {t} n s h =
     later rows (row (number_of k) P ∷ []) t n (subst (λ (q : Result Unit Refusal). Gives (row (number_of k) P ∷ []) (tested_said q)) (sym s.is) (row_gives P f k h))
 
+-- what `said?` and then `next` give
+abbrev joined : (said next : Result Unit Refusal) → Result Unit Refusal
+joined (Ok u) next = next
+joined (Err r) next = Err r
+
+-- one row more: of the rows and one more the join of what is said of each
+pub also : (rows : List Row) (P : ℕ → Type 0) {f : Option ℕ} {k : Kind} {next : Result Unit Refusal} (said : Result Unit Refusal) → Refuses f k next → Gives rows (tested_said said) → Finds P f → Gives (rows ++ (row (number_of k) P ∷ [])) (tested_said (joined said next))
+also rows P (Ok u) s g h = row_last rows P g s h
+also rows P (Err r) s g h = first_left rows _ (number_of r.kind) r.place g
+
 -- what was refused among the first rows is the first of all, and what passed leaves none of them
 
 pub refused_front : (rows more : List Row) {t q : Result Unit Refusal} {r : Refusal} → Gives rows (tested_said t) → t ≡ Err r → q ≡ Err r → Gives (rows ++ more) (tested_said q)

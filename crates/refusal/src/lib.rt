@@ -88,15 +88,17 @@ pub fn refuse(found: Option<usize>, kind: Kind) -> Result<(), Refusal>
 }
 
 // The number of a kind.
-pub fn number(kind: Kind) -> u64
-    ensures { result ≡ number_of kind }
-{
-    match kind {
-        Kind::Game(fault) => fault as u64,
-        Kind::Buffer => 8,
-        Kind::Vertices => 9,
-        Kind::Claim(fault) => fault as u64,
-        Kind::Second(fault) => 20 + fault as u64,
-        Kind::Filed(fault) => fault as u64,
+impl From<Kind> for u64 {
+    ghost from_gives = { λ kind number. number ≡ number_of kind };
+
+    fn from(kind: Kind) -> u64 {
+        match kind {
+            Kind::Game(fault) => fault as u64,
+            Kind::Buffer => 8,
+            Kind::Vertices => 9,
+            Kind::Claim(fault) => fault as u64,
+            Kind::Second(fault) => 20 + fault as u64,
+            Kind::Filed(fault) => fault as u64,
+        }
     }
 }

@@ -5,7 +5,6 @@ ghost use Rattle.std.specs.Prelude.{◌≤◌};
 ghost use Rattle.waiting.specs.parts.Moves.{Standable};
 ghost use Rattle.reopen.specs.parts.Reopening.{OpenedIn, Reopenable, Reopened};
 
-use game::vertex::wide;
 use player::Player;
 use space::desk::Desk;
 use space::work::{queued, set_flag};
@@ -37,11 +36,11 @@ pub fn reopen(
 {
     let mut low = from;
     for i in 0..tail {
-        let u = wide(queued(n, i, work));
+        let u = usize::from(queued(n, i, work));
         let p = priorities[u];
         set_mark(winners, u, u8::from(Player::of_priority(p)));
         open_again(n, u, priorities, desk, work);
-        low = low.min(p as usize);
+        low = low.min(usize::from(p));
     }
     low
 }

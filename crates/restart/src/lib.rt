@@ -4,14 +4,14 @@
 ghost use Rattle.std.specs.Prelude.{length};
 ghost use Rattle.restart.specs.parts.Restarting.{OpenSeedable, SeededAll, Firmable, Firmed, Restartable, RestartedIn};
 
-use preds::Predecessors;
+use preds::Incoming;
 use reach::closure::{clear, close, seed};
 use reopen::reopen;
 use space::desk::Desk;
 use space::work::{flag, reached};
 use storage::Winner;
 
-// Every open vertex is a seed; the result is their number.
+// Every open vertex is a seed; the result is their number. Apart from `amend`'s loop, as it says there.
 fn seed_open(n: usize, work: &mut [u16]) -> usize
     requires { OpenSeedable n work.old }
     ensures { SeededAll n work.old work.new result }
@@ -40,14 +40,14 @@ fn make_firm(n: usize, desk: &mut Desk, work: &[u16])
 // Opens again all that leans on an open vertex.
 pub fn restart(
     priorities: &[u8],
-    preds: &Predecessors,
+    preds: Incoming,
     moves: &[u16],
     desk: &mut Desk,
     winners: &mut [Winner],
     work: &mut [u16],
 )
-    requires { Restartable (length priorities.now) priorities.now preds.now.ins preds.now.froms desk.old winners.old work.old }
-    ensures { RestartedIn (length priorities.now) priorities.now preds.now.ins preds.now.froms moves.now winners.old work.old desk.new winners.new work.new }
+    requires { Restartable (length priorities.now) priorities.now preds.ins.now preds.froms.now desk.old winners.old work.old }
+    ensures { RestartedIn (length priorities.now) priorities.now preds.entry.ins.now preds.entry.froms.now moves.now winners.old work.old desk.new winners.new work.new }
 {
     let n = priorities.len();
     let tail = seed_open(n, work);

@@ -2,8 +2,8 @@
 // that is not decided for good is opened again. Which order begins, and the budgets, decide only how soon the answer is there.
 #![tactic(auto)]
 
+ghost use Rattle.std.specs.Prelude.{◌≤◌};
 ghost use Rattle.game.specs.promise.Lent.{asked, lent};
-ghost use Rattle.space.specs.parts.Desk.{Laid};
 ghost use Rattle.step.specs.parts.Stepping.{Engine};
 ghost use Rattle.draw.specs.parts.Drawing.{Drainable};
 ghost use Rattle.rounds.specs.parts.Settled.{SettledTo};
@@ -13,14 +13,14 @@ use game::tables::Tables;
 use one_round::{Order, round};
 use orders::Ended;
 use orders::lowest::lowest;
-use preds::Predecessors;
+use preds::Incoming;
 use restart::restart;
 use space::desk::Desk;
 use storage::Winner;
 
 // How many priorities have somebody in their line.
 fn lines_used(desk: &Desk) -> usize
-    requires { Laid desk.now }
+    ensures { result ≤ 256 }
 {
     (0..256).filter(|&k| desk.first(k) != NONE).count()
 }
@@ -37,13 +37,13 @@ fn begins_with(used: usize) -> Order {
 // Lowest first to the end: it comes, though perhaps not soon.
 fn finish(
     tables: Tables,
-    preds: &Predecessors,
+    preds: Incoming,
     desk: &mut Desk,
     winners: &mut [Winner],
     moves: &mut [u16],
     work: &mut [u16],
 )
-    requires { Engine (asked tables) preds.now.ins preds.now.froms desk.old winners.old moves.old work.old }
+    requires { Engine (asked tables) preds.ins.now preds.froms.now desk.old winners.old moves.old work.old }
     ensures { SettledTo (lent tables) winners.old moves.old work.old winners.new moves.new work.new }
 {
     loop {
@@ -57,13 +57,13 @@ fn finish(
 // Rounds until nothing is open; after 32 of them, which nobody will see, lowest first to the end.
 pub fn run(
     tables: Tables,
-    preds: &Predecessors,
+    preds: Incoming,
     desk: &mut Desk,
     winners: &mut [Winner],
     moves: &mut [u16],
     work: &mut [u16],
 )
-    requires { Drainable 0 (asked tables) preds.now.ins preds.now.froms desk.old winners.old moves.old work.old }
+    requires { Drainable 0 (asked tables) preds.ins.now preds.froms.now desk.old winners.old moves.old work.old }
     ensures { SettledTo (lent tables) winners.old moves.old work.old winners.new moves.new work.new }
 {
     let mut order = begins_with(lines_used(desk));

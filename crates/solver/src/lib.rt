@@ -11,7 +11,6 @@ use engine::settle;
 use game::tables::Tables;
 use preds::Predecessors;
 use refusal::Refusal;
-use space::fill::fill;
 use start::fresh::open_all;
 use storage::Winner;
 use tables::lent::test_lent;
@@ -24,8 +23,8 @@ fn answer(tables: Tables, winners: &mut [Winner], moves: &mut [u16], work: &mut 
     let mut preds = Predecessors::blank();
     preds.list(tables);
     open_all(tables.priorities, winners, work);
-    settle(tables, &preds, winners, moves, work);
-    fill(work, 0);
+    settle(tables, preds.incoming(), winners, moves, work);
+    work.fill(0);
 }
 
 // Writes winners and moves of the game, or gives the first of 1 to 8 that applies.

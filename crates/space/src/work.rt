@@ -1,6 +1,7 @@
 // The lent work space: four sections of n cells. The first has a flag or a level for each vertex, the second what a closure has reached, the
 // third its queue, the fourth who stands behind each vertex in its waiting line. C lends one list for all four, so a flag is a number and nobody is
 // 65,535. A pair of leaves for each, not one generic over the section: `reached(n, v, work)` says what `cell::<1>(n, v, work)` does not.
+// n stands beside `work`, and the desk beside both: a struct of them would hold a `&mut`, and every contract a clause more (docs/DECISIONS.md, Forms).
 ghost use Rattle.std.specs.Prelude.{◌≡◌, get_or};
 ghost use Rattle.space.specs.parts.Work.{section, Cell, CellSet};
 

@@ -2,14 +2,15 @@
 ghost use Rattle.std.specs.Prelude.{◌<◌, length, get_or};
 ghost use Rattle.player.specs.promise.Player.{parity_of};
 ghost use Rattle.storage.specs.promise.Answer.{mark_room, mark_of};
+ghost use Rattle.storage.specs.promise.Lent.{claimed};
 ghost use Rattle.start.specs.parts.Preparing.{Chosen, Preparable, Prepared};
 
 use player::Player;
 use space::work::set_flag;
 use storage::Winner;
-use storage::answer::{mark, record_move, recorded, set_mark};
+use storage::answer::{Answer, mark, record_move, recorded, set_mark};
 
-// The mark that v starts with: its old one, or if v is reached that of its priority's parity.
+// The mark that v starts with: its old one, or if v is reached that of its priority's parity. A number, to be put into its cell.
 fn start_mark(v: usize, priorities: &[u8], old_winners: &[Winner], reached: &[u8]) -> u8
     requires { (v < length priorities.now) × (v < mark_room old_winners.now) × (v < length reached.now) }
     ensures { Chosen (get_or reached.now v 0) (mark_of old_winners.now v) (parity_of (get_or priorities.now v 0)) result }
@@ -21,22 +22,22 @@ fn start_mark(v: usize, priorities: &[u8], old_winners: &[Winner], reached: &[u8
 }
 
 // The engine's start: unreached vertices settled with their old lines, reached ones open. The move of an open vertex is never read.
+// What is reached is bytes and no `bool`s: this, and `anew::decide`, promise for any byte that is not 0.
 pub fn prepare(
     n: usize,
     priorities: &[u8],
-    old_winners: &[Winner],
-    old_moves: &[u16],
+    old: Answer,
     reached: &[u8],
     winners: &mut [Winner],
     moves: &mut [u16],
     work: &mut [u16],
 )
-    requires { Preparable n priorities.now old_winners.now old_moves.now reached.now winners.old moves.old work.old }
-    ensures { Prepared n priorities.now old_winners.now old_moves.now reached.now winners.new moves.new work.new n }
+    requires { Preparable n priorities.now old.winners.now old.moves.now reached.now winners.old moves.old work.old }
+    ensures { Prepared n priorities.now (claimed old).winners (claimed old).moves reached.now winners.new moves.new work.new n }
 {
     for v in 0..n {
-        set_mark(winners, v, start_mark(v, priorities, old_winners, reached));
-        record_move(moves, v, recorded(old_moves, v));
-        set_flag(n, v, reached[v] as u16, work);
+        set_mark(winners, v, start_mark(v, priorities, old.winners, reached));
+        record_move(moves, v, recorded(old.moves, v));
+        set_flag(n, v, u16::from(reached[v]), work);
     }
 }

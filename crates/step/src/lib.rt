@@ -7,7 +7,7 @@ ghost use Rattle.step.specs.parts.Outcome.{SteppedIn};
 
 use line::Line;
 use player::Player;
-use preds::Predecessors;
+use preds::Incoming;
 use space::desk::Desk;
 use storage::Winner;
 use turn::keep::keep;
@@ -19,14 +19,14 @@ pub fn step(
     line: Line,
     low: usize,
     priorities: &[u8],
-    preds: &Predecessors,
+    preds: Incoming,
     desk: &mut Desk,
     winners: &mut [Winner],
     moves: &mut [u16],
     work: &mut [u16],
 ) -> usize
-    requires { Turnable (length priorities.now) v priorities.now preds.now.ins preds.now.froms desk.old winners.old moves.old work.old }
-    ensures { SteppedIn (length priorities.now) v line.winner line.to line.level low priorities.now preds.now.ins preds.now.froms desk.old winners.old moves.old work.old desk.new winners.new moves.new work.new result }
+    requires { Turnable (length priorities.now) v priorities.now preds.ins.now preds.froms.now desk.old winners.old moves.old work.old }
+    ensures { SteppedIn (length priorities.now) v line.winner line.to line.level low priorities.now preds.entry.ins.now preds.entry.froms.now desk.old winners.old moves.old work.old desk.new winners.new moves.new work.new result }
 {
     let own = priorities[v];
     if line.winner == u8::from(Player::of_priority(own)) {

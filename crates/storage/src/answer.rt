@@ -1,9 +1,16 @@
-// A vertex's mark and move, read and written.
+// An answer, and a vertex's mark and move in it, read and written.
 ghost use Rattle.std.specs.Prelude.{◌≡◌, ◌<◌, length};
 ghost use Rattle.storage.specs.promise.Answer.{winner_cells, mark_room, mark_of, move_of};
 ghost use Rattle.storage.specs.parts.Answers.{MarkSet, MoveSet};
 
 use crate::Winner;
+
+// An answer that is only read: who wins each vertex, and his move.
+#[derive(Clone, Copy)]
+pub struct Answer<'a> {
+    pub winners: &'a [Winner],
+    pub moves: &'a [u16],
+}
 
 // How many cells the winners of n vertices take.
 pub fn cells(n: usize) -> usize
@@ -12,6 +19,7 @@ pub fn cells(n: usize) -> usize
     n
 }
 
+// A pair of leaves for marks and one for moves, and no generic one: how winners are stored is to change, and moves stay as they are.
 pub fn mark(winners: &[Winner], v: usize) -> u8
     requires { v < mark_room winners.now }
     ensures { result ≡ mark_of winners.now v }

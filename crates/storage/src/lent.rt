@@ -1,4 +1,4 @@
-// The lengths of winners, moves and work space.
+// The lengths of winners, moves and work space. Lengths and no lists, which are lent in one way here and in another there.
 ghost use Rattle.std.specs.Prelude.{◌≤◌};
 ghost use Rattle.refusal.specs.parts.Found.{Finds};
 ghost use Rattle.game.specs.promise.Lent.{Fault8};

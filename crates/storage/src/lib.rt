@@ -1,5 +1,6 @@
-// Winners and moves as they are stored: the one room that knows it. Rows 8 and 11. Marks and moves are numbers because C lends their lists. Those and
-// the work space are handed on one by one: behind a `&mut`, a struct of three `&mut` needs a clause more in every contract (docs/DECISIONS.md, Forms).
+// Winners and moves as they are stored: the one room that knows it. Rows 8 and 11. Marks and moves are numbers because C lends their lists. An answer that is
+// only read is one value; where they are written, winners, moves and work space are handed on one by one: behind a `&mut`, a struct of three `&mut` needs a
+// clause more in every contract (docs/DECISIONS.md, Forms).
 #![tactic(auto)]
 
 pub mod answer;

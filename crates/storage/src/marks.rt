@@ -7,7 +7,7 @@ use crate::Winner;
 use crate::answer::mark;
 use player::Player;
 
-// 11: a mark that is neither 0 nor 1.
+// 11: a mark that is neither 0 nor 1. Apart from `faults::owner`, which asks it of bytes: how marks are stored is this room's alone.
 pub fn strange_mark(n: usize, winners: &[Winner]) -> Option<usize>
     requires { Stored n winners.now }
     ensures { Finds (Fault11 n winners.now) result }

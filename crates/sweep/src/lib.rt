@@ -4,7 +4,6 @@
 ghost use Rattle.std.specs.Prelude.{◌<◌, ◌≤◌};
 ghost use Rattle.std.specs.Option.{IfSome};
 ghost use Rattle.game.specs.promise.Lent.{asked, lent};
-ghost use Rattle.space.specs.parts.Desk.{Laid};
 ghost use Rattle.pick.specs.parts.Order.{Frontable};
 ghost use Rattle.draw.specs.parts.Drawing.{Drainable, Drawn};
 ghost use Rattle.sweep.specs.parts.Gathering.{Gathered, Lookable, Looked};
@@ -12,10 +11,9 @@ ghost use Rattle.sweep.specs.parts.Gathering.{Gathered, Lookable, Looked};
 use attract::{Left, drain};
 use game::NONE;
 use game::tables::Tables;
-use game::vertex::wide;
 use pick::front;
 use pile::push;
-use preds::Predecessors;
+use preds::Incoming;
 use space::desk::Desk;
 use space::work::{behind, flag};
 use storage::Winner;
@@ -50,14 +48,14 @@ fn gather(n: usize, priority: usize, desk: &mut Desk, work: &[u16]) -> usize
         if next == NONE {
             return tail;
         }
-        x = wide(next);
+        x = usize::from(next);
     }
     tail
 }
 
 // The highest line below p that has somebody.
 fn below(desk: &Desk, p: usize) -> Option<usize>
-    requires { Laid desk.now × (p ≤ 256) }
+    requires { p ≤ 256 }
     ensures { IfSome result (λ k. k < p) }
 {
     (0..p).rev().find(|&k| desk.first(k) != NONE)
@@ -68,15 +66,15 @@ pub fn sweep(
     top: usize,
     budget: usize,
     tables: Tables,
-    preds: &Predecessors,
+    preds: Incoming,
     desk: &mut Desk,
     winners: &mut [Winner],
     moves: &mut [u16],
     work: &mut [u16],
 ) -> Left
-    requires { Drainable 0 (asked tables) preds.now.ins preds.now.froms desk.old winners.old moves.old work.old }
+    requires { Drainable 0 (asked tables) preds.ins.now preds.froms.now desk.old winners.old moves.old work.old }
     ensures left { result.budget ≤ budget }
-    ensures moved { Drawn 0 (lent tables) preds.now.ins preds.now.froms winners.old moves.old work.old desk.new winners.new moves.new work.new }
+    ensures moved { Drawn 0 (lent tables) preds.entry.ins.now preds.entry.froms.now winners.old moves.old work.old desk.new winners.new moves.new work.new }
 {
     let n = tables.owners.len();
     let mut left = budget;

@@ -28,10 +28,17 @@ pub fn test_tables(tables: Tables) -> Result<(), Refusal>
         faults::start(tables.starts, tables.targets),
         Kind::Game(TableFault::Start),
     )?;
-    refuse(faults::stuck(tables), Kind::Game(TableFault::Stuck))?;
+    let n = tables.owners.len();
     refuse(
-        faults::target(tables.vertices(), tables.targets),
+        faults::stuck(n, tables.starts, tables.targets),
+        Kind::Game(TableFault::Stuck),
+    )?;
+    refuse(
+        faults::target(n, tables.targets),
         Kind::Game(TableFault::Target),
     )?;
-    refuse(faults::order(tables), Kind::Game(TableFault::Order))
+    refuse(
+        faults::order(n, tables.starts, tables.targets),
+        Kind::Game(TableFault::Order),
+    )
 }

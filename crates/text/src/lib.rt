@@ -1,5 +1,6 @@
 // Appending to a text in a lent slice: each function takes the place at which it begins and returns the place after it. No struct of the two: it would
-// hold a `&mut`, and every contract would have to say that the reference stays.
+// hold a `&mut`, and every contract would have to say that the reference stays. No `write!` either: what it writes is known of a `String`, which is on the heap,
+// and here every byte of a lent slice is promised.
 #![tactic(auto)]
 
 ghost use Rattle.std.specs.Prelude.{[], ◌∷◌, ◌++◌};

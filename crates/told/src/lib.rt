@@ -5,14 +5,14 @@ ghost use Rattle.std.specs.Prelude.{◌<◌, ◌≡◌, [], ◌∷◌};
 ghost use Rattle.told.specs.promise.Told.{value_of};
 ghost use Rattle.told.specs.parts.Handing.{Gave};
 
-use refusal::{Refusal, number};
+use refusal::Refusal;
 
 // A refusal's number, with its place as the value.
 pub fn refused(r: Refusal, value: &mut u64) -> u64
     ensures { Gave r result value.new }
 {
     *value = r.place as u64;
-    number(r.kind)
+    u64::from(r.kind)
 }
 
 // The two sizes of a file in one value.

@@ -5,7 +5,7 @@ ghost use Rattle.turn.specs.parts.Turning.{Turnable, TurnedIn};
 
 use crate::keep::keep;
 use line::Line;
-use preds::Predecessors;
+use preds::Incoming;
 use reach::closure::{clear, close, seed};
 use reopen::reopen;
 use space::desk::Desk;
@@ -21,14 +21,14 @@ pub fn turn(
     line: Line,
     low: usize,
     priorities: &[u8],
-    preds: &Predecessors,
+    preds: Incoming,
     desk: &mut Desk,
     winners: &mut [Winner],
     moves: &mut [u16],
     work: &mut [u16],
 ) -> usize
-    requires { Turnable n v priorities.now preds.now.ins preds.now.froms desk.old winners.old moves.old work.old }
-    ensures { TurnedIn n v line.winner line.to line.level low priorities.now preds.now.ins preds.now.froms desk.old winners.old moves.old work.old desk.new winners.new moves.new work.new result }
+    requires { Turnable n v priorities.now preds.ins.now preds.froms.now desk.old winners.old moves.old work.old }
+    ensures { TurnedIn n v line.winner line.to line.level low priorities.now preds.entry.ins.now preds.entry.froms.now desk.old winners.old moves.old work.old desk.new winners.new moves.new work.new result }
 {
     let one = seed(n, v, work, 0);
     let tail = close(n, preds, 0, moves, work, one);

@@ -3,62 +3,46 @@
 
 ghost use Rattle.refusal.specs.promise.Row.{None};
 ghost use Rattle.game.specs.promise.Tables.{WellFormed};
-ghost use Rattle.game.specs.promise.Lent.{asked, lent};
-ghost use Rattle.storage.specs.promise.Lent.{claim, claimed, buffers, given, left};
+ghost use Rattle.storage.specs.promise.Lent.{buffers, given, left};
 ghost use Rattle.update.specs.promise.Updating.{Updates, updated_said};
-ghost use Rattle.inputs.specs.promise.Inputs.{input_of, test_rows};
+ghost use Rattle.inputs.specs.promise.Inputs.{asked_input, handed, test_rows};
 
 use checker::judge_in;
-use game::tables::Tables;
-use inputs::test_input;
+use inputs::{Input, test_input};
 use preds::Predecessors;
 use redo::redo;
 use refusal::Refusal;
 use storage::Winner;
+use storage::answer::Answer;
 
 // The checker's verdict on the old answer comes first; a refusal ends the update. The two games' predecessor lists stand in one place,
 // one after the other.
 #[tactic(auto, using(crate::proofs::Outcomes::refused_judged))]
 fn amend(
-    first: Tables,
-    second: Tables,
-    old_winners: &[Winner],
-    old_moves: &[u16],
+    input: Input,
     winners: &mut [Winner],
     moves: &mut [u16],
     work: &mut [u16],
 ) -> Result<usize, Refusal>
-    requires free { None (test_rows (input_of (asked first) (asked second) (claim old_winners old_moves)) (buffers winners moves work)) }
-    requires formed { WellFormed (asked first) × WellFormed (asked second) }
-    ensures { Updates (input_of (lent first) (lent second) (claimed old_winners old_moves)) (given winners moves work) (left winners moves work) (updated_said result) }
+    requires free { None (test_rows (asked_input input) (buffers winners moves work)) }
+    requires formed { WellFormed (asked_input input).first × WellFormed (asked_input input).second }
+    ensures { Updates (handed input) (given winners moves work) (left winners moves work) (updated_said result) }
 {
     let mut preds = Predecessors::blank();
-    judge_in(first, old_winners, old_moves, &mut preds, work)?;
-    let count = redo(
-        first,
-        second,
-        old_winners,
-        old_moves,
-        &mut preds,
-        winners,
-        moves,
-        work,
-    );
+    judge_in(input.first, input.old, &mut preds, work)?;
+    let count = redo(input, &mut preds, winners, moves, work);
     Ok(count)
 }
 
 // The number of vertices that reach an amended one; writes the answer to the second game that keeps every line of the old one that no amendment reaches, or gives the first refusal that applies.
 pub fn update(
-    first: Tables,
-    second: Tables,
-    old_winners: &[Winner],
-    old_moves: &[u16],
+    input: Input,
     winners: &mut [Winner],
     moves: &mut [u16],
     work: &mut [u16],
 ) -> Result<usize, Refusal>
-    ensures { Updates (input_of (lent first) (lent second) (claimed old_winners old_moves)) (given winners moves work) (left winners moves work) (updated_said result) }
+    ensures { Updates (handed input) (given winners moves work) (left winners moves work) (updated_said result) }
 {
-    test_input(first, second, old_winners, old_moves, winners, moves, work)?;
-    amend(first, second, old_winners, old_moves, winners, moves, work)
+    test_input(input, Answer { winners, moves }, work)?;
+    amend(input, winners, moves, work)
 }

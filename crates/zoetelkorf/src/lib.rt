@@ -4,15 +4,18 @@
 
 ghost use Rattle.game.specs.promise.Tables.{tables_of};
 ghost use Rattle.game.specs.promise.Lent.{written};
-ghost use Rattle.storage.specs.promise.Lent.{claimed, given, left};
+ghost use Rattle.storage.specs.promise.Answer.{answer_of};
+ghost use Rattle.storage.specs.promise.Lent.{given, left};
 ghost use Rattle.inputs.specs.promise.Inputs.{input_of};
 ghost use Rattle.zoetelkorf.specs.promise.Calls.{ChecksBy, SolvesBy, UpdatesBy, ReadsBy, WritesBy};
 
 use checker::check;
 use game::tables::Tables;
 use housefile::reader::read;
+use inputs::Input;
 use solver::solve;
 use storage::Winner;
+use storage::answer::Answer;
 use told::{refused, sizes};
 use update::update;
 use writer::write;
@@ -28,7 +31,7 @@ pub extern "C" fn zoetelkorf_check(
     work: &mut [u16],
     value: &mut u64,
 ) -> u64
-    ensures { ChecksBy (tables_of owners.now priorities.now starts.now targets.now) (claimed winners moves) work.old work.new result value.new }
+    ensures { ChecksBy (tables_of owners.now priorities.now starts.now targets.now) (answer_of winners.now moves.now) work.old work.new result value.new }
 {
     let tables = Tables {
         owners,
@@ -36,7 +39,7 @@ pub extern "C" fn zoetelkorf_check(
         starts,
         targets,
     };
-    match check(tables, winners, moves, work) {
+    match check(tables, Answer { winners, moves }, work) {
         Ok(()) => {
             *value = 0;
             0
@@ -90,22 +93,27 @@ pub extern "C" fn zoetelkorf_update(
     work: &mut [u16],
     value: &mut u64,
 ) -> u64
-    ensures { UpdatesBy (input_of (tables_of owners.now priorities.now starts.now targets.now) (tables_of owners2.now priorities2.now starts2.now targets2.now) (claimed old_winners old_moves)) (given winners moves work) (left winners moves work) result value.new }
+    ensures { UpdatesBy (input_of (tables_of owners.now priorities.now starts.now targets.now) (tables_of owners2.now priorities2.now starts2.now targets2.now) (answer_of old_winners.now old_moves.now)) (given winners moves work) (left winners moves work) result value.new }
 {
-    let first = Tables {
-        owners,
-        priorities,
-        starts,
-        targets,
+    let input = Input {
+        first: Tables {
+            owners,
+            priorities,
+            starts,
+            targets,
+        },
+        second: Tables {
+            owners: owners2,
+            priorities: priorities2,
+            starts: starts2,
+            targets: targets2,
+        },
+        old: Answer {
+            winners: old_winners,
+            moves: old_moves,
+        },
     };
-    let second = Tables {
-        owners: owners2,
-        priorities: priorities2,
-        starts: starts2,
-        targets: targets2,
-    };
-    let updated = update(first, second, old_winners, old_moves, winners, moves, work);
-    match updated {
+    match update(input, winners, moves, work) {
         Ok(count) => {
             *value = count as u64;
             0

@@ -5,7 +5,7 @@ use Rattle.attract.proofs.Drains.{drain_visitable}
 use Rattle.attract.proofs.drain.Goals as goal
 
 pub visit-pile-requires : goal.visit-pile-requires
-visit-pile-requires c = drain_visitable c.loop-left.invariant c.if-end-eq0.false (c.wide.ensures ∙ c.piled.ensures)
+visit-pile-requires c = drain_visitable c.loop-left.invariant c.if-end-eq0.false (c.from.ensures ∙ c.piled.ensures)
 
 pub loop-left-preserved : goal.loop-left-preserved
 loop-left-preserved c = drawn_more c.loop-left.invariant c.visit-pile.ensures

@@ -4,4 +4,4 @@ use Rattle.draw.specs.parts.Drawing.{Drawn}
 use Rattle.attract.proofs.drain.Given as goal
 
 abbrev pub invariant-loop-left : goal.invariant-loop-left
-invariant-loop-left l = Drawn l.pile.tail (asked l.tables) l.preds.ins l.preds.froms l.initial.winners l.initial.moves l.initial.work l.desk l.winners l.moves l.work
+invariant-loop-left l = Drawn l.pile.tail (asked l.tables) l.preds.ins.now l.preds.froms.now l.initial.winners l.initial.moves l.initial.work l.desk l.winners l.moves l.work

@@ -1,6 +1,5 @@
 -- `checker::check` meets its contract: 1 to 8, and then what is judged (Verdicts).
 use borrow.Author.Rules.{rules}
-use mathlib.Core.Path.{refl}
 use Rattle.storage.proofs.Passed.{lent_fit}
 use Rattle.checker.proofs.Verdicts.{checked_before, checked_judged}
 use Rattle.checker.proofs.check.Goals as goal

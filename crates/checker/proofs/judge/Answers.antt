@@ -3,6 +3,7 @@ use mathlib.Core.Path.{◌∙◌}
 use Rattle.refusal.proofs.Rows.{row_passed}
 use Rattle.storage.specs.promise.Faults.{Fault11}
 use Rattle.winning.specs.promise.Faults.{Fault12, Fault13}
+use Rattle.lists.proofs.Stores.{filled_copies}
 use Rattle.checker.proofs.judge.Goals as goal
 
 pub lost_cycle-requires : goal.lost_cycle-requires
@@ -17,6 +18,6 @@ lost_cycle-requires c =
             no13 = row_passed (Fault13 _ _ _) c.refuse-3.ensures c.open_escape.ensures c.in_ok-refuse-3.was;
           };
       preds = p.preds;
-      work_long = c.fill.ensures.long ∙ p.passed.work_long;
-      zero = c.fill.ensures.filled;
+      work_long = c.fill.ensures.len ∙ p.passed.work_long;
+      zero = (filled_copies _ (c.fill.ensures.after (λ y e. e)));
     }

@@ -2,9 +2,6 @@
 use Rattle.engine.proofs.LinedUp.{fillable, runnable, settled_from}
 use Rattle.engine.proofs.settle.Goals as goal
 
-pub no_lines-requires : goal.no_lines-requires
-no_lines-requires c = c.blank-desk.ensures.laid
-
 pub line_up-requires : goal.line_up-requires
 line_up-requires c = fillable c.requires c.blank-desk.ensures.nobody c.no_lines.ensures
 

@@ -9,7 +9,7 @@ successors-requires c = stretch_of _ _ _ c.requires _ (search rules)
 
 pub returns-in-Some : goal.returns-in-Some
 returns-in-Some c =
-    order_found _ _ _ c.requires _ _ _ _ _ (search rules) c.successors.ensures c.in-Some.is c.descent.ensures c.wide.ensures c.loop-v.invariant
+    order_found _ _ _ c.requires _ _ _ _ _ (search rules) c.successors.ensures c.in-Some.is c.descent.ensures c.from.ensures c.loop-v.invariant
 
 pub loop-v-preserved : goal.loop-v-preserved
 loop-v-preserved c =

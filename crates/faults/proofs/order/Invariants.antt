@@ -4,4 +4,4 @@ use Rattle.refusal.specs.parts.Found.{Scanned}
 use Rattle.faults.proofs.order.Given as goal
 
 abbrev pub invariant-loop-v : goal.invariant-loop-v
-invariant-loop-v l = Scanned (Unordered l.tables.starts.now l.tables.targets.now) l.v
+invariant-loop-v l = Scanned (Unordered l.starts l.targets) l.v

@@ -1,6 +1,6 @@
 -- Row 8 on the lengths of what is lent, and how the clauses of a contract speak of lent tables. (docs/RULES.md, Memory)
 use Rattle.std.specs.Prelude.{ℕ, ◌≡◌, List, [], ◌∷◌}
-use Rattle.std.specs.Borrow.{Bor, MutBor}
+use Rattle.std.specs.Borrow.{MutBor}
 use denote.Triple.Both.{Both}
 use Rattle.game.specs.declared.tables.Tables as stored
 use Rattle.game.specs.promise.Tables.{Tables, tables_of}

@@ -1,11 +1,13 @@
 -- What is handed to an update, and the rows that are tested before the old answer: 1 to 7, 21 to 27, 9, 8. (docs/RULES.md, Refusals)
 use Rattle.std.specs.Prelude.{ℕ, ◌+◌, ◌≡◌, ◌≢◌, List, [], ◌∷◌, ◌++◌, map, length}
+use denote.Triple.Both.{Both}
 use Rattle.refusal.specs.promise.Row.{Row, row}
 use Rattle.game.specs.promise.Tables.{Tables, vertices}
 use Rattle.game.specs.promise.Faults.{table_rows}
 use Rattle.storage.specs.promise.Answer.{Answer, winner_cells}
-use Rattle.game.specs.promise.Lent.{Sized, sized, Fault8}
-use Rattle.storage.specs.promise.Lent.{Lent, lent_sizes}
+use Rattle.game.specs.promise.Lent.{Sized, sized, Fault8, asked}
+use Rattle.storage.specs.promise.Lent.{Lent, lent_sizes, claim}
+use Rattle.inputs.specs.declared.Input as stored
 
 -- what is handed in: two games and an answer to the first
 pub record Input : Type 0 where
@@ -16,6 +18,13 @@ pub record Input : Type 0 where
 -- such an input, in this order
 abbrev pub input_of : (first second : Tables) → (old : Answer) → Input
 input_of first second old = record { first = first; second = second; old = old }
+
+-- what is handed, as a `requires` speaks of it, and an `ensures`
+abbrev pub asked_input : stored.Input → Input
+asked_input i = input_of (asked i.first) (asked i.second) (claim i.old)
+
+abbrev pub handed : {A : Type 0} → Both stored.Input A → Input
+handed i = asked_input i.entry
 
 -- the rows of the second game: its tables' rows, 20 higher
 abbrev pub second_rows : List Row → List Row

@@ -6,4 +6,4 @@ pub returns-then-flag-eq0 : goal.returns-then-flag-eq0
 returns-then-flag-eq0 c = floor_settled c.flag.ensures c.if-flag-eq0.true c.level.ensures
 
 pub returns : goal.returns
-returns c = floor_open c.flag.ensures c.if-flag-eq0.false
+returns c = rw c.from.ensures (floor_open c.flag.ensures c.if-flag-eq0.false)

@@ -6,4 +6,4 @@ use Rattle.lines.proofs.game_lines.Goals as goal
 pub returns : goal.returns
 returns c =
     let a = c.args in
-    appended_both (game_line a.n a.m) (vertex_lines a.owners.now a.priorities.now a.winners.now a.moves.now a.n) c.game_line-at.ensures c.vertex_lines.ensures
+    appended_both (game_line a.n a.m) (vertex_lines a.owners.now a.priorities.now a.answer.winners.now a.answer.moves.now a.n) c.game_line-at.ensures c.vertex_lines.ensures

@@ -7,9 +7,16 @@ use Rattle.lines.proofs.Fields.{listed}
 use Rattle.lines.proofs.vertex_line.Goals as goal
 
 pub byte-requires : goal.byte-requires
-byte-requires c = record { room = omega (arith, length-append {A = ℕ}, c.requires.room) }
+byte-requires c =
+    let b = rw c.from.ensures at c.field-b.ensures in
+    let p = rw c.from-2.ensures at c.field-c.ensures in
+    let d = rw c.from-3.ensures at c.field-d.ensures in
+    record { room = omega (arith, length-append {A = ℕ}, c.requires.room) }
 
 pub returns : goal.returns
 returns c =
     let a = c.args in
-    listed a.v a.owner a.priority a.winner (move_field a.to) c.field-a.ensures c.field-b.ensures c.field-c.ensures c.field-d.ensures c.move_field-e.ensures c.byte.ensures
+    let b = rw c.from.ensures at c.field-b.ensures in
+    let p = rw c.from-2.ensures at c.field-c.ensures in
+    let d = rw c.from-3.ensures at c.field-d.ensures in
+    listed a.v a.owner a.priority a.winner (move_field a.to) c.field-a.ensures b p d c.move_field-e.ensures c.byte.ensures

@@ -3,4 +3,4 @@ use Rattle.offer.proofs.Weighing.{weighing_room}
 use Rattle.offer.proofs.all_for.Goals as goal
 
 pub mark-requires : goal.mark-requires
-mark-requires c = weighing_room c.requires c.loop-to-test.true c.wide-t.ensures
+mark-requires c = weighing_room c.requires c.loop-to-test.true c.from-t.ensures

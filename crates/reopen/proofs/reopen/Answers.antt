@@ -7,4 +7,4 @@ pub queued-requires : goal.queued-requires
 queued-requires c = reopening_place c.requires c.loop-i.invariant c.loop-i-test.true
 
 pub set_mark-requires : goal.set_mark-requires
-set_mark-requires c = reopening_room c.requires c.loop-i.invariant c.loop-i-test.true (c.wide-u.ensures ∙ c.queued.ensures)
+set_mark-requires c = reopening_room c.requires c.loop-i.invariant c.loop-i-test.true (c.from-u.ensures ∙ c.queued.ensures)

@@ -9,7 +9,7 @@ use Rattle.step.specs.parts.Stepping.{Moved}
 use Rattle.rounds.proofs.finish.Given as goal
 
 abbrev pub invariant-loop : goal.invariant-loop
-invariant-loop l = Moved (asked l.tables) l.preds.ins l.preds.froms l.initial.winners l.initial.moves l.initial.work l.desk l.winners l.moves l.work
+invariant-loop l = Moved (asked l.tables) l.preds.ins.now l.preds.froms.now l.initial.winners l.initial.moves l.initial.work l.desk l.winners l.moves l.work
 
 abbrev pub decreases-loop : goal.decreases-loop
 decreases-loop l = measure (game_of (asked l.tables)) (mark_of l.winners) (settled_of (length l.tables.owners.now) l.work)

@@ -4,4 +4,4 @@ use Rattle.draw.specs.parts.Drawing.{Drawn}
 use Rattle.rounds.proofs.run.Given as goal
 
 abbrev pub invariant-loop : goal.invariant-loop
-invariant-loop l = Drawn 0 (asked l.tables) l.preds.ins l.preds.froms l.initial.winners l.initial.moves l.initial.work l.desk l.winners l.moves l.work
+invariant-loop l = Drawn 0 (asked l.tables) l.preds.ins.now l.preds.froms.now l.initial.winners l.initial.moves l.initial.work l.desk l.winners l.moves l.work

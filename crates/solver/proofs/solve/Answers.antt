@@ -1,10 +1,5 @@
 -- `solver::solve` meets its contract: 1 to 8, and then the answer.
-use native.Mathlib.Omega.{arith}
-use Rattle.refusal.proofs.Rows.{passed_front}
-use Rattle.game.specs.promise.Lent.{asked}
-use Rattle.storage.specs.promise.Lent.{buffers}
-use Rattle.storage.proofs.Passed.{lent_formed, lent_fit}
-use Rattle.solver.specs.promise.Solving.{solve_rows}
+use Rattle.storage.proofs.Passed.{lent_fit}
 use Rattle.solver.proofs.solve.Goals as goal
 
 pub answer-requires : goal.answer-requires

@@ -1,5 +1,5 @@
 -- The engine's desk: the ends of the waiting lines, who waits, the levels and the pile.
-use Rattle.std.specs.Prelude.{ℕ, ◌≡◌, List, length, set}
+use Rattle.std.specs.Prelude.{ℕ, ◌≡◌, length, set}
 use Rattle.lists.specs.parts.Cells.{Filled}
 use Rattle.space.specs.declared.desk.Desk.{Desk}
 

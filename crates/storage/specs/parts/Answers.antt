@@ -1,7 +1,7 @@
 -- Lists of winners and moves: what writing gives, and what the one-vertex test gives.
 use Rattle.std.specs.Prelude.{ℕ, ◌<◌, ◌≡◌, ◌≢◌, List, length, get_or, Option, Some, None}
 use Rattle.refusal.specs.promise.Row.{Lowest, NoPlace}
-use Rattle.storage.specs.promise.Answer.{winner_cells, mark_of, move_of}
+use Rattle.storage.specs.promise.Answer.{winner_cells, mark_room, mark_of, move_of}
 
 -- a list of the winners of n vertices
 pub record Stored (n : ℕ) (winners : List ℕ) : Type 0 where
@@ -10,6 +10,10 @@ pub record Stored (n : ℕ) (winners : List ℕ) : Type 0 where
 -- as many cells as the most vertices take (`WINNERS` in the code)
 abbrev pub cells_most : ℕ
 cells_most = 2048
+
+-- each number of a stretch is a vertex for which there is a mark
+abbrev pub AllMarked : (stretch winners : List ℕ) → Type 0
+AllMarked stretch winners = (i : ℕ) → i < length stretch → get_or stretch i 0 < mark_room winners
 
 -- v has the mark p, and all else is as before
 pub record MarkSet (before after : List ℕ) (v p : ℕ) : Type 0 where

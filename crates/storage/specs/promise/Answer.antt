@@ -6,6 +6,10 @@ pub record Answer : Type 0 where
   pub winners : List ℕ
   pub moves : List ℕ
 
+-- such an answer, in this order
+abbrev pub answer_of : (winners moves : List ℕ) → Answer
+answer_of winners moves = record { winners = winners; moves = moves }
+
 -- how many cells the winners of n vertices take
 unfoldable pub winner_cells : ℕ → ℕ
 winner_cells n = n

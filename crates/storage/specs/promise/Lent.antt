@@ -1,12 +1,13 @@
 -- What is lent besides the tables, row 8 on its lengths, and how the clauses of a contract speak of it. (docs/RULES.md, Memory)
 use Rattle.std.specs.Prelude.{ℕ, ◌*◌, ◌<◌, ◌≤◌, ◌≡◌, List, [], ◌∷◌, ◌++◌, length, get_or}
-use Rattle.std.specs.Borrow.{Bor, MutBor}
+use Rattle.std.specs.Borrow.{MutBor}
 use denote.Triple.Both.{Both}
 use Rattle.refusal.specs.promise.Row.{Row, row}
 use Rattle.game.specs.promise.Tables.{Tables, vertices}
 use Rattle.game.specs.promise.Faults.{table_rows}
 use Rattle.game.specs.promise.Lent.{Sized, sized, Fault8}
-use Rattle.storage.specs.promise.Answer.{Answer, winner_cells}
+use Rattle.storage.specs.declared.answer.Answer as stored
+use Rattle.storage.specs.promise.Answer.{Answer, answer_of, winner_cells}
 
 -- what a solver writes: an answer, with the work space beside it
 pub record Lent : Type 0 where
@@ -36,16 +37,17 @@ pub record Leaves (number : ℕ) (before after : List ℕ) : Type 0 where
   pub zeroed : Judging number → Zeroed before after
   pub same : ¬ Judging number → after ≡ before
 
--- an answer that a `requires`, or an `ensures`, speaks of
-abbrev pub claim : (winners moves : Bor (List ℕ)) → Answer
-claim winners moves = record { winners = winners.now; moves = moves.now }
+-- the answer that a `requires` speaks of; of two lists `answer_of` makes one
+abbrev pub claim : stored.Answer → Answer
+claim a = answer_of a.winners.now a.moves.now
 
-abbrev pub claimed : {A B : Type 0} → Both (Bor (List ℕ)) A → Both (Bor (List ℕ)) B → Answer
-claimed winners moves = claim winners.entry moves.entry
+-- the answer that an `ensures` speaks of: as it was at entry
+abbrev pub claimed : {A : Type 0} → Both stored.Answer A → Answer
+claimed a = claim a.entry
 
 -- what is lent to a solver: as a `requires` speaks of it, at entry, and at exit
 abbrev pub buffers : (winners moves work : MutBor (List ℕ)) → Lent
-buffers winners moves work = record { answer = record { winners = winners.now; moves = moves.now }; work = work.now }
+buffers winners moves work = record { answer = answer_of winners.now moves.now; work = work.now }
 
 abbrev pub given : {A B C : Type 0} → Both (MutBor (List ℕ)) A → Both (MutBor (List ℕ)) B → Both (MutBor (List ℕ)) C → Lent
 given winners moves work = buffers winners.entry moves.entry work.entry

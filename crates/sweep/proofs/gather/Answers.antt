@@ -12,7 +12,7 @@ pub returns-then-next : goal.returns-then-next
 returns-then-next c = gathering_all c.requires c.front.ensures.dropped (gathering_more c.requires c.front.ensures.dropped c.loop.invariant.1 c.loop.invariant.0 c.look-tail.ensures)
 
 pub loop-preserved : goal.loop-preserved
-loop-preserved c = (gathering_more c.requires c.front.ensures.dropped c.loop.invariant.1 c.loop.invariant.0 c.look-tail.ensures, stands_behind c.requires c.front.ensures.dropped c.loop.invariant.1 c.behind-next.ensures c.if-next.false c.wide-x.ensures)
+loop-preserved c = (gathering_more c.requires c.front.ensures.dropped c.loop.invariant.1 c.loop.invariant.0 c.look-tail.ensures, stands_behind c.requires c.front.ensures.dropped c.loop.invariant.1 c.behind-next.ensures c.if-next.false c.from-x.ensures)
 
 pub returns : goal.returns
 returns c = gathering_all c.requires c.front.ensures.dropped c.loop.invariant.0

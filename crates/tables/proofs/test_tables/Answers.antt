@@ -36,7 +36,7 @@ pub returns-clause-gives : goal.returns-clause-gives
 returns-clause-gives c =
     let entry = passed_entry (row_passed (Fault1 _) c.refuse.ensures c.sizes.ensures c.in_ok-refuse.was) (row_passed (Fault2 _) c.refuse-2.ensures c.owner.ensures c.in_ok-refuse-2.was) (row_passed (Fault3 _) c.refuse-3.ensures c.priority.ensures.finds c.in_ok-refuse-3.was) (row_passed (Fault4 _ _) c.refuse-4.ensures c.start.ensures c.in_ok-refuse-4.was) in
     let five = row_passed (Fault5 _ _ _) c.refuse-5.ensures c.stuck.ensures c.in_ok-refuse-5.was in
-    let six = row_passed (Fault6 _ _) c.refuse-6.ensures (rw c.vertices.ensures at c.target.ensures) c.in_ok-refuse-6.was in
+    let six = row_passed (Fault6 _ _) c.refuse-6.ensures c.target.ensures c.in_ok-refuse-6.was in
     later (entry_rows _) (stretch_rows (asked c.args.tables)) _ entry (row_last (row 5 (Fault5 _ _ _) ∷ row 6 (Fault6 _ _) ∷ []) (Fault7 _ _ _) (five, (six, tt)) c.refuse-7.ensures c.order.ensures)
 
 pub returns-clause-formed : goal.returns-clause-formed

@@ -1,6 +1,6 @@
 -- `amend::marking::seed_differing` meets its contract. The invariant, `Seeding`: of the vertices passed those that differ are seeds.
 use Rattle.game.specs.promise.Lent.{asked}
-use Rattle.game.specs.promise.Tables.{game_of, tables_of}
+use Rattle.game.specs.promise.Tables.{game_of}
 use Rattle.amend.specs.promise.Amended.{Differs}
 use Rattle.amend.specs.parts.Marking.{Seeding}
 use Rattle.amend.proofs.marking.seed_differing.Given as goal

@@ -7,4 +7,4 @@ use Rattle.refusal.specs.parts.Found.{Scanned}
 use Rattle.answers.proofs.moves.wrong_move.Given as goal
 
 abbrev pub invariant-loop-v : goal.invariant-loop-v
-invariant-loop-v l = Scanned (Fault12 (game_of (asked l.tables)) (mark_of l.winners) (move_of l.moves)) l.v
+invariant-loop-v l = Scanned (Fault12 (game_of (asked l.tables)) (mark_of l.answer.winners.now) (move_of l.answer.moves.now)) l.v

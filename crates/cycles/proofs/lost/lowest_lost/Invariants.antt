@@ -10,5 +10,5 @@ use Rattle.cycles.proofs.lost.lowest_lost.Given as goal
 abbrev pub invariant-loop-x : goal.invariant-loop-x
 invariant-loop-x l = record {
   ready : Ready (vertices (asked l.tables)) l.tables.priorities.now l.work;
-  scanned : Scanned (Fault14 (game_of (asked l.tables)) (mark_of l.winners) (move_of l.moves)) l.x;
+  scanned : Scanned (Fault14 (game_of (asked l.tables)) (mark_of l.answer.winners.now) (move_of l.answer.moves.now)) l.x;
 }

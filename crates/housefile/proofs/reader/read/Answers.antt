@@ -9,12 +9,8 @@ use Rattle.game.specs.promise.Tables.{tables_of}
 use Rattle.game.specs.promise.Lent.{Fault8}
 use Rattle.format.specs.promise.Faults.{judged_rows}
 use Rattle.housefile.specs.promise.Faults.{table_sizes}
-use Rattle.decoding.proofs.Padding.{padded_blank}
 use Rattle.housefile.proofs.LentRows.{reads_refused}
 use Rattle.housefile.proofs.reader.read.Goals as goal
-
-pub judge-requires : goal.judge-requires
-judge-requires c = record { owners = padded_blank 2048; priorities = padded_blank 2048; starts = padded_blank 2049; targets = padded_blank 16384 }
 
 pub returns-in_err-judge : goal.returns-in_err-judge
 returns-in_err-judge c =

@@ -1,6 +1,5 @@
 -- `listing::list::listed` meets its contract. Solved in the arrays' beginnings (Answers), the game's lines fit and are its listing (Whole).
 use mathlib.Core.Path.{refl, sym}
-use native.Mathlib.Omega.{arith}
 use lib.ListN.{length, replicate}
 use lib.Seq.{length-take-le, length_front}
 use Rattle.storage.specs.promise.Lent.{Lent}
@@ -17,19 +16,13 @@ roomy : Roomy blank
 roomy = record { winners = refl; moves = refl; work = refl }
 
 pub slice_bounds-winners-end : goal.slice_bounds-winners-end
-slice_bounds-winners-end c = cells_few _ c.requires.0 blank roomy _ c.cells-marks.ensures
+slice_bounds-winners-end c = cells_few _ c.requires blank roomy _ c.cells-marks.ensures
 
 pub slice_bounds-answer-end : goal.slice_bounds-answer-end
-slice_bounds-answer-end c = sym (length-take-le _ _ (cells_few _ c.requires.0 blank roomy _ c.cells-marks.ensures))
-
-pub slice_bounds-answer-end-2 : goal.slice_bounds-answer-end-2
-slice_bounds-answer-end-2 c = sym (length-take-le _ _ c.requires.0.sound.few)
-
-pub slice_bounds-answer-end-3 : goal.slice_bounds-answer-end-3
-slice_bounds-answer-end-3 c = (let few = c.requires.0.sound.few in sym (length-take-le _ _ (omega (arith, few))))
+slice_bounds-answer-end c = sym (length-take-le _ _ (cells_few _ c.requires blank roomy _ c.cells-marks.ensures))
 
 pub answer-requires : goal.answer-requires
-answer-requires c = (solvable _ c.requires.0 blank roomy _ c.cells-marks.ensures)
+answer-requires c = solvable _ c.requires blank roomy _ c.cells-marks.ensures
 
 pub slice_bounds-game_lines-end : goal.slice_bounds-game_lines-end
 slice_bounds-game_lines-end c =
@@ -42,11 +35,11 @@ slice_bounds-game_lines-end-2 c =
 pub game_lines-requires : goal.game_lines-requires
 game_lines-requires c =
     let p = c.requires in
-    let a = answered _ p.0 blank roomy _ c.cells-marks.ensures (record { winners = c.answer.new.winners; moves = c.answer.new.moves }) c.answer.auto.winners c.answer.auto.moves c.answer.ensures in
-    (listable _ p.0 _ a, whole_room _ p.0 _ a p.1)
+    let a = answered _ p blank roomy _ c.cells-marks.ensures (record { winners = c.answer.new.winners; moves = c.answer.new.moves }) c.answer.auto.winners c.answer.auto.moves c.answer.ensures in
+    (listable _ p _ a, whole_room _ p _ a c.told-text)
 
 pub returns : goal.returns
 returns c =
     let p = c.requires in
-    let a = answered _ p.0 blank roomy _ c.cells-marks.ensures (record { winners = c.answer.new.winners; moves = c.answer.new.moves }) c.answer.auto.winners c.answer.auto.moves c.answer.ensures in
-    answer_listed _ p.0 _ a p.1 c.game_lines.ensures
+    let a = answered _ p blank roomy _ c.cells-marks.ensures (record { winners = c.answer.new.winners; moves = c.answer.new.moves }) c.answer.auto.winners c.answer.auto.moves c.answer.ensures in
+    answer_listed _ p _ a c.told-text c.game_lines.ensures

@@ -24,9 +24,9 @@ loop-preserved c =
     elim c.if-line-from.branch [
       | then-line-from w ↦
           let k = w.keep.ensures in
-          rw (w.desk-is, w.winners-is, w.moves-is, w.work-is, w.low-is)
+          rw (w.desk-is, w.winners-is, w.moves-is, w.work-is, w.low-is, w.from-low.ensures)
           (lowering_step i (least_stepped _ _ _ _ _ _ _ _ s x.tested x.level (by_keeping t (w.if-line-from.true ∙ c.from.ensures ∙ c.of_priority.ensures) k.moved k.levelled k.only k.flagged)))
       | else-line-from w ↦
           rw (w.desk-is, w.winners-is, w.moves-is, w.work-is, w.low-is)
-          (lowering_step i (least_stepped _ _ _ _ _ _ _ _ s x.tested x.level (by_turning (λ e. w.if-line-from.false (e ∙ sym (c.from.ensures ∙ c.of_priority.ensures))) w.turn-low.ensures)))
+          (lowering_step i (least_stepped _ _ _ _ _ _ _ _ s x.tested x.level (by_turning (λ e. w.if-line-from.false (e ∙ sym (c.from.ensures ∙ c.of_priority.ensures))) (rw w.from-else-line-from.ensures at w.turn-low.ensures))))
     ]

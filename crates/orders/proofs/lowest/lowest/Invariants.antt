@@ -4,4 +4,4 @@ use Rattle.orders.proofs.Running.{Lowering}
 use Rattle.orders.proofs.lowest.lowest.Given as goal
 
 abbrev pub invariant-loop : goal.invariant-loop
-invariant-loop l = Lowering l.low l.counter (asked l.tables) l.preds.ins l.preds.froms l.initial.winners l.initial.moves l.initial.work l.desk l.winners l.moves l.work
+invariant-loop l = Lowering l.low l.counter (asked l.tables) l.preds.ins.now l.preds.froms.now l.initial.winners l.initial.moves l.initial.work l.desk l.winners l.moves l.work

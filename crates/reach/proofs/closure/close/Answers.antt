@@ -15,7 +15,7 @@ pub loop-h-smaller : goal.loop-h-smaller
 loop-h-smaller c = omega (arith, (closing_place c.requires c.loop-h.invariant c.loop-h-test.true).within)
 
 pub loop-h-preserved : goal.loop-h-preserved
-loop-h-preserved c = closing_in_more c.requires c.loop-h.invariant c.loop-h-test.true (c.wide-w.ensures ∙ c.queued.ensures) c.visit-end.ensures
+loop-h-preserved c = closing_in_more c.requires c.loop-h.invariant c.loop-h-test.true (c.from-w.ensures ∙ c.queued.ensures) c.visit-end.ensures
 
 pub returns : goal.returns
 returns c = closing_in_all c.requires c.loop-h.invariant c.loop-h-test.false

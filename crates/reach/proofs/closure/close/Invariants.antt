@@ -5,7 +5,7 @@ use Rattle.reach.proofs.Closing.{ClosingIn}
 use Rattle.reach.proofs.closure.close.Given as goal
 
 abbrev pub invariant-loop-h : goal.invariant-loop-h
-invariant-loop-h l = ClosingIn l.n l.preds.ins l.preds.froms l.choice l.bound l.initial.work l.work l.end l.h
+invariant-loop-h l = ClosingIn l.n l.preds.ins.now l.preds.froms.now l.choice l.bound l.initial.work l.work l.end l.h
 
 abbrev pub decreases-loop-h : goal.decreases-loop-h
 decreases-loop-h l = l.n - l.h

@@ -5,4 +5,4 @@ use Rattle.reach.proofs.Visits.{visiting_triable}
 use Rattle.reach.proofs.closure.visit.Goals as goal
 
 pub try_step-end-requires : goal.try_step-end-requires
-try_step-end-requires c = visiting_triable c.requires (omega arith) c.loop-i.invariant c.wide.ensures
+try_step-end-requires c = visiting_triable c.requires (omega arith) c.loop-i.invariant c.from.ensures

@@ -4,4 +4,4 @@ use Rattle.reach.proofs.Visits.{VisitingIn}
 use Rattle.reach.proofs.closure.visit.Given as goal
 
 abbrev pub invariant-loop-i : goal.invariant-loop-i
-invariant-loop-i l = VisitingIn l.n l.w l.preds.ins l.preds.froms l.choice l.bound l.initial.work l.tail l.work l.i l.end
+invariant-loop-i l = VisitingIn l.n l.w l.preds.ins.now l.preds.froms.now l.choice l.bound l.initial.work l.tail l.work l.i l.end

@@ -3,4 +3,4 @@ use Rattle.start.specs.parts.Preparing.{Prepared}
 use Rattle.start.proofs.kept.prepare.Given as goal
 
 abbrev pub invariant-loop-v : goal.invariant-loop-v
-invariant-loop-v l = Prepared l.n l.priorities l.old_winners l.old_moves l.reached l.winners l.moves l.work l.v
+invariant-loop-v l = Prepared l.n l.priorities l.old.winners.now l.old.moves.now l.reached l.winners l.moves l.work l.v
