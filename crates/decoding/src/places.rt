@@ -1,5 +1,5 @@
-// What is filed of a vertex and of an edge, and where it stands; a function for each, since each promises its own filed list. `FileSized`, which they ask of the bytes, is no type's invariant:
-// these functions promise for any bytes of which it is known. The divisors are constants, so no division is made at run time.
+// What is filed of a vertex and of an edge, and where it stands; a function for each, since each promises its own filed list. `FileSized`, which they ask of
+// the bytes, is no type's invariant: they promise for any bytes of which it is known. The divisors are constants, so no division is made at run time.
 ghost use Rattle.std.specs.Prelude.{◌≡◌, [], ◌<◌, get_or};
 ghost use Rattle.format.specs.promise.Filed.{vertex_place, count_filed, owners_filed, priorities_filed, targets_filed};
 ghost use Rattle.format.specs.parts.Tests.{FileSized};

@@ -13,7 +13,8 @@ pub enum BlockKind {
     Targets = 3,
 }
 
-// n and m are two numbers, here and below, which need be no file's header. Two functions, not one over the number in a block: what that number counts is in their names.
+// n and m are two numbers, here and below, which need be no file's header. Two functions, not one over the number in a block: what that number counts is
+// in their names.
 pub fn vertex_blocks(n: usize) -> usize
     ensures { result ≡ vertex_blocks n }
 {

@@ -46,7 +46,8 @@ pub fn round(
     requires { Drainable 0 (asked tables) preds.ins.now preds.froms.now desk.old winners.old moves.old work.old }
     ensures { Ran (lent tables) preds.entry.ins.now preds.entry.froms.now winners.old moves.old work.old desk.new winners.new moves.new work.new result }
 {
-    // Two orders of one signature, so a branch and no closure. No `match`: with one LLVM inlines less, and random games take a tenth more time to solve (measured).
+    // Two orders of one signature, so a branch and no closure. No `match`: with one LLVM inlines less, and random games take a tenth more time to solve
+    // (measured).
     if order == Order::Lowest {
         return lowest(budget, tables, preds, desk, winners, moves, work);
     }

@@ -1,5 +1,5 @@
 // What a block's payload is made of: the header's fields, or a run of vertices or of targets.
-ghost use Rattle.std.specs.Prelude.{◌≡◌, ◌+◌, ◌-◌, ◌*◌, ◌<◌, ◌≤◌, min, length};
+ghost use Rattle.std.specs.Prelude.{◌≡◌, ◌+◌, ◌-◌, ◌*◌, ◌<◌, min, length};
 ghost use Rattle.game.specs.promise.Tables.{vertices};
 ghost use Rattle.game.specs.promise.Lent.{asked, lent};
 ghost use Rattle.format.specs.promise.Format.{plain};
@@ -19,7 +19,7 @@ pub fn header(tables: Tables, part: &mut [u8])
     part[10] = 0;
 }
 
-// Two functions, not one over an item's width: an item's place would be the width times its index, and no law of two variables' product is found by itself.
+// Two functions, not one over an item's width: an item's place would be the width times its index, and `omega` reads no product of two variables.
 
 // 126 vertices from the first on, or what is left of them: owner, priority, number of successors.
 pub fn run_vertices(tables: Tables, first: usize, part: &mut [u8])

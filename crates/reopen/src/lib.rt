@@ -1,7 +1,6 @@
 // Opening again what the closure has queued.
 #![tactic(auto)]
 
-ghost use Rattle.std.specs.Prelude.{◌≤◌};
 ghost use Rattle.waiting.specs.parts.Moves.{Standable};
 ghost use Rattle.reopen.specs.parts.Reopening.{OpenedIn, Reopenable, Reopened};
 

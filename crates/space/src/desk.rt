@@ -2,10 +2,10 @@
 ghost use Rattle.std.specs.Prelude.{◌≡◌, ◌<◌, get_or};
 ghost use Rattle.space.specs.parts.Desk.{Blank, put_first, put_last, put_waits, put_level, put_piled};
 
-// A pair of methods for each field, since there is no generic over a field, and every read and write of a cell has a leaf of its own that says once what it does. They take
-// and give any number, so no cell is an `Option` or an enum. The desk is lent apart from the work space: a struct of two `&mut` needs a clause more in
-// every contract (docs/DECISIONS.md, Forms). Arrays side by side, none of records: what writes one need not say that another
-// stays. 13 KB, so it is not to be copied.
+// A pair of methods for each field, since there is no generic over a field, and every read and write of a cell has a leaf of its own that says once what it
+// does. They take and give any number, so no cell is an `Option` or an enum. The desk is lent apart from the work space: a struct of two `&mut` needs a
+// clause more in every contract (docs/DECISIONS.md, Forms). Arrays side by side, none of records: what writes one need not say that another stays. 13 KB, so
+// it is not to be copied.
 #[derive(Drop)]
 pub struct Desk {
     pub firsts: [u16; 256],

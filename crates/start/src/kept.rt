@@ -22,7 +22,7 @@ fn start_mark(v: usize, priorities: &[u8], old_winners: &[Winner], reached: &[u8
 }
 
 // The engine's start: unreached vertices settled with their old lines, reached ones open. The move of an open vertex is never read.
-// What is reached is bytes and no `bool`s: this, and `anew::decide`, promise for any byte that is not 0.
+// What is reached is bytes and no `bool`s: this, and `anew::decide`, take any byte but 0 for reached.
 pub fn prepare(
     n: usize,
     priorities: &[u8],

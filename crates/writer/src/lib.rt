@@ -21,7 +21,8 @@ fn output(n: usize, m: usize, long: usize) -> Option<usize>
     (long % 512 != 0 || long / 512 != all_blocks(n, m)).then_some(0)
 }
 
-// Each block is lent the part of the output that is its own. By the block's number, since the law that puts a part back speaks of it (docs/DECISIONS.md, Writing).
+// Each block is lent the part of the output that is its own. By the block's number, since the law that puts a part back speaks of it (docs/DECISIONS.md,
+// Writing).
 fn fill(tables: Tables, file: &mut [u8])
     requires { Fillable (asked tables) file.old }
     ensures { file.new ≡ file_of (plain (lent tables)) }

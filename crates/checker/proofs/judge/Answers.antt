@@ -19,5 +19,5 @@ lost_cycle-requires c =
           };
       preds = p.preds;
       work_long = c.fill.ensures.len ∙ p.passed.work_long;
-      zero = (filled_copies _ (c.fill.ensures.after (λ y e. e)));
+      zero = filled_copies _ (c.fill.ensures.after (λ y e. e));
     }
